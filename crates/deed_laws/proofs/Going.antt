@@ -1,16 +1,16 @@
 -- Tokens of which a daemon doesn't know: how they go, and stay gone.
-use Rattle.std.proofs.Common.{◌≡◌, ◌∙◌, ◌⊎◌, true, false, List, [], ◌∷◌, ◌++◌, All, None, Some, inl, inr, refl, sym, ap, subst, append_assoc, append-nil}
+use Rattle.std.proofs.Common.{◌≡◌, ◌∙◌, ◌⊎◌, true, false, List, [], ◌∷◌, ◌++◌, All, Option, None, Some, inl, inr}
+use Rattle.std.proofs.Common.{refl, sym, ap, subst, append_assoc, append-nil}
 use Rattle.std.specs.List.{cons_option}
 use Rattle.std.proofs.lemmas.Bool.{false≢true}
 use Rattle.std.proofs.lemmas.List.Elements.{All-head, All-tail}
 use Rattle.std.proofs.lemmas.Option.{none-some}
-use Rattle.hsm_types.specs.declared.daemons.Act.TheVariants as act
 use Rattle.hsm_types.specs.declared.daemons.Daemon.{Daemon}
 use Rattle.hsm_types.specs.declared.daemons.Daemon.TheVariants.{Recall, Migrate}
-use Rattle.hsm_types.specs.declared.daemons.Heard.TheVariants as heard
 use Rattle.hsm_types.specs.declared.keys.Token.{Token}
-use Rattle.deeds.specs.Deeds.{Deed, Kills, Gives, Hears, Loses, entry_in}
-use Rattle.deeds.specs.Lives.{Move, life, move_of}
+use Rattle.deeds.specs.Deeds.{Deed, entry_in}
+use Rattle.deeds.specs.Lives.{Move, Ends, Asks, Misses, life, move_of}
+use Rattle.deeds.proofs.Finding.{deed_of}
 use Rattle.deeds.proofs.Lists.{all_rest}
 use Rattle.deed_laws.specs.Keeping.{loses_next, WentToLine, WasLost, FindsAgain, NeverFinds, IsTaken, IsLost, IsNoLoss, LosesNoAnswer}
 
@@ -79,19 +79,16 @@ gone_end d deeds t is = by (subst (λ (l : List Deed). Went is.deed l t) (append
 
 -- ---- where nothing is lost
 
-one_kept : (d : Daemon) (x : Deed) (moves : List Move) → IsNoLoss x → loses_next moves ≡ false → loses_next (cons_option (move_of d x) moves) ≡ false
-one_kept Recall (Kills Recall) moves kept is = refl
-one_kept Recall (Gives Recall asked) moves kept is = refl
-one_kept Recall (Loses Recall) moves kept is = absurd kept
-one_kept Migrate (Kills Migrate) moves kept is = refl
-one_kept Migrate (Gives Migrate asked) moves kept is = refl
-one_kept Migrate (Loses Migrate) moves kept is = absurd kept
-one_kept Recall x moves kept is = is
-one_kept Migrate x moves kept is = is
+by_move : (d : Daemon) (x : Deed) (o : Option Move) (moves : List Move) → move_of d x ≡ o → IsNoLoss x → loses_next moves ≡ false → loses_next (cons_option o moves) ≡ false
+by_move d x None moves own kept is = is
+by_move d x (Some Ends) moves own kept is = refl
+by_move d x (Some (Asks asked)) moves own kept is = refl
+by_move d x (Some Misses) moves own kept is = absurd (subst IsNoLoss (deed_of d x Misses own) kept)
+by_move d x (Some move) moves own kept is = is
 
 none_loses : (d : Daemon) (deeds : List Deed) → All IsNoLoss deeds → loses_next (life d deeds) ≡ false
 none_loses d [] all = refl
-none_loses d (x ∷ deeds) all = one_kept d x (life d deeds) (All-head IsNoLoss x deeds all) (none_loses d deeds (All-tail IsNoLoss x deeds all))
+none_loses d (x ∷ deeds) all = by_move d x (move_of d x) (life d deeds) refl (All-head IsNoLoss x deeds all) (none_loses d deeds (All-tail IsNoLoss x deeds all))
 
 pub loses_no_answer : (d : Daemon) (deeds : List Deed) (t : Token) → LosesNoAnswer d deeds t
 loses_no_answer d deeds t all is =

@@ -1,8 +1,7 @@
 -- How the seats of two daemons stand to the sessions, and what one deed makes of that.
-use Rattle.std.proofs.Common.{◌≡◌, ◌∙◌, ◌⊎◌, ℕ, ◌≤◌, Bool, true, false, List, [], ◌∷◌, ◌++◌, Option, None, Some, IfSome, inl, inr, refl, sym, ap, subst, arith}
+use Rattle.std.proofs.Common.{◌≡◌, ◌∙◌, ◌⊎◌, ℕ, ◌≤◌, Bool, true, false, List, [], ◌∷◌, ◌++◌, Option, None, Some, inl, inr, refl, sym, ap, subst, arith}
 use Rattle.std.proofs.lemmas.Bool.{false≢true}
 use Rattle.std.proofs.lemmas.Option.{none-some}
-use Rattle.std.specs.List.{cons_option}
 use Rattle.std.specs.Prelude.{Contains}
 use Rattle.hsm_types.specs.Sessions.{SessionTable}
 use Rattle.hsm_types.specs.declared.daemons.Act.{Act}
@@ -31,7 +30,7 @@ use Rattle.plain_model.specs.State.{State}
 use Rattle.plain_model.specs.Stands.{InOrder}
 use Rattle.plain_model.specs.Exact.{IsAnswer, left_by}
 use Rattle.dm_service.specs.Handing.{HandsOut}
-use Rattle.daemon_session.specs.Seats.{Seat, no_seat, seat_asks, seat_hears}
+use Rattle.daemon_session.specs.Seats.{Seat, no_seat, seat_asks}
 use Rattle.recall_daemon.proofs.Outcomes.{AsksOn}
 use Rattle.marked_history.proofs.Accounting.{Finds, AllAccounted, none_accounted, all_later, changed_on}
 use Rattle.marked_history.proofs.BothSeats.{Moves, AreApart, moves_given, moves_apart, later_given, other_way, keeps_all, keeps_moved, line_on, other_on}
@@ -42,8 +41,8 @@ use Rattle.deeds.specs.Deeds.{Deed, Enters, Hears, Breaks, call_told, entry_of, 
 use Rattle.deeds.specs.Lives.{Workings, Living, Move, Begins, Ends, Renews, Asks, Learns, Fails, Misses, hearing, begun, renewed, untold, move_of, deed_by}
 use Rattle.deeds.specs.Lives.{life, MovesTo}
 use Rattle.deed_laws.specs.Keeping.{loses_next, FindsAgain}
-use Rattle.deed_laws.proofs.Going.{Went, Gone, gone_more, gone_last, no_entry, not_own}
-use Rattle.deed_laws.proofs.Sitting.{Remarked, Gave, MayAsk, HasAsked, HasGiven, Sits, Sound, IsSound, given_seat, seat_now, unheard}
+use Rattle.deed_laws.proofs.Going.{Gone, gone_more, gone_last, not_own}
+use Rattle.deed_laws.proofs.Sitting.{Remarked, Gave, HasAsked, HasGiven, Sits, IsSound, given_seat, seat_now, unheard}
 
 least : (n : ℕ) → n ≤ n
 least n = omega arith

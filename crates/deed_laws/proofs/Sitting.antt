@@ -1,5 +1,5 @@
 -- How what a daemon knows of its session goes on: one form for both machines.
-use Rattle.std.proofs.Common.{◌≡◌, ◌⊎◌, List, [], ◌∷◌, ◌++◌, map, Option, None, Some, IfSome, inl, inr, refl, sym, subst, append_assoc, append-nil}
+use Rattle.std.proofs.Common.{◌≡◌, ◌⊎◌, List, [], ◌∷◌, ◌++◌, map, Option, None, Some, IfSome, refl, sym, subst, append_assoc, append-nil}
 use Rattle.std.specs.Option.{unwrap_or}
 use Rattle.hsm_types.specs.declared.daemons.Act.{Act}
 use Rattle.hsm_types.specs.declared.daemons.Act.TheVariants as act

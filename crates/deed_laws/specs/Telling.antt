@@ -14,7 +14,7 @@ use Rattle.hsm_types.specs.declared.keys.Sid.{Sid}
 use Rattle.hsm_types.specs.declared.keys.Token.{Token}
 use Rattle.hsm_types.specs.declared.messages.Message.{Message}
 use Rattle.hsm_types.specs.declared.stores.Superblock.{Superblock}
-use Rattle.plain_model.specs.State.{Held, State, just_opened}
+use Rattle.plain_model.specs.State.{Held, just_opened}
 use Rattle.plain_model.specs.Exact.{state_by}
 use Rattle.plain_model.specs.Laws.{IsRunSeen}
 use Rattle.hsm_policy.specs.Settings.{Numbers}

@@ -1,6 +1,6 @@
 -- Each token that is outstanding to a daemon's session is accounted for: its event is kept, its message is still to be found again, or it was taken.
 use Rattle.std.proofs.Common.{◌≡◌, ℕ, Bool, true, false, cond, not, List, [], ◌∷◌, ◌++◌, drop, map, filter, Option, None, Some, inl, inr, refl, sym}
-use Rattle.std.proofs.Common.{ap, subst, ◌∙◌, append_assoc}
+use Rattle.std.proofs.Common.{ap, subst, ◌∙◌}
 use Rattle.std.proofs.lemmas.Bool.{false≢true, eqb-true, eqb-false, ne_eqb}
 use Rattle.std.proofs.lemmas.List.Elements.{All-nil, All-cons, All-head, All-tail, All-weaker, All-contains, Contains-append_left, Contains-append_right}
 use Rattle.std.proofs.lemmas.Map.Made.{Contains-tail}
@@ -8,7 +8,7 @@ use Rattle.std.specs.Prelude.{◌⊎◌, ◌==◌, Contains, IsSome}
 use Rattle.std.specs.List.{All, filter_map, cons_option}
 use Rattle.std.specs.Option.{option_map}
 use Rattle.hsm_types.specs.Daemons.{kinds_of}
-use Rattle.hsm_types.specs.Messages.{IsOf, no_token, takes}
+use Rattle.hsm_types.specs.Messages.{IsOf, takes}
 use Rattle.hsm_types.specs.Sessions.{SessionTable, outstanding_of, tokens_of}
 use Rattle.hsm_types.specs.declared.daemons.Daemon.{Daemon}
 use Rattle.hsm_types.specs.declared.dm.DmCall.TheVariants.{FindEventMsg}
@@ -21,17 +21,13 @@ use Rattle.hsm_types.specs.declared.keys.Handle.{Handle}
 use Rattle.hsm_types.specs.declared.keys.Sid.{Sid}
 use Rattle.hsm_types.specs.declared.keys.Token.{Token}
 use Rattle.hsm_types.specs.declared.messages.Message.{Message}
-use Rattle.plain_model.specs.declared.entries.Action.{Action}
-use Rattle.plain_model.specs.declared.entries.Action.TheVariants.{Dm}
-use Rattle.plain_model.specs.declared.entries.Answer.{Answer}
-use Rattle.plain_model.specs.declared.entries.Answer.TheVariants.{Dm as Told}
 use Rattle.event_msgs.specs.Buffers.{IsInGrammar, IsPacked}
 use Rattle.event_msgs.proofs.ToldMessages.{packed_told}
 use Rattle.daemon_session.specs.declared.events.Kept.{Kept}
 use Rattle.daemon_session.specs.Seats.{Seat, IsSeated, has_kept_token, forgot, found_one}
 use Rattle.daemon_session.specs.Tellings.{event_on, own_event, events_in}
 use Rattle.marked_history.specs.Tokens.{Keeps}
-use Rattle.marked_history.proofs.Lists.{all_and, none_in, first_in, later_in}
+use Rattle.marked_history.proofs.Lists.{none_in, first_in, later_in}
 use Rattle.marked_history.proofs.Outstanding.{zip_each}
 
 -- ---- elements of lists

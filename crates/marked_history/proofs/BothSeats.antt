@@ -1,12 +1,11 @@
 -- What is outstanding to the sessions of two daemons stays accounted for through entries of lines and calls of both.
-use Rattle.std.proofs.Common.{◌≡◌, ℕ, ◌+◌, ◌≤◌, true, false, List, [], ◌∷◌, ◌++◌, Option, None, Some, inl, inr, refl, sym, ap, subst, ◌∙◌, arith}
+use Rattle.std.proofs.Common.{◌≡◌, ℕ, ◌+◌, ◌≤◌, true, false, List, None, Some, inl, inr, refl, sym, ap, subst, ◌∙◌, arith}
 use Rattle.std.proofs.lemmas.List.Elements.{All-weaker}
 use Rattle.std.specs.Prelude.{◌⊎◌, Contains}
 use Rattle.hsm_types.specs.Messages.{handed_out}
 use Rattle.hsm_types.specs.Sessions.{SessionTable, next_sid, queue_of, tokens_of}
 use Rattle.hsm_types.specs.declared.calls.Reply.{Reply}
 use Rattle.hsm_types.specs.declared.daemons.Daemon.{Daemon}
-use Rattle.hsm_types.specs.declared.daemons.Daemon.TheVariants.{Recall, Migrate}
 use Rattle.hsm_types.specs.declared.dm.DmCall.{DmCall}
 use Rattle.hsm_types.specs.declared.dm.DmCall.TheVariants as call
 use Rattle.hsm_types.specs.declared.dm.DmRefusal.TheVariants as why
@@ -22,30 +21,18 @@ use Rattle.plain_model.specs.declared.entries.Actor.{Actor}
 use Rattle.plain_model.specs.declared.entries.Actor.TheVariants.{Session}
 use Rattle.plain_model.specs.declared.entries.Answer.{Answer}
 use Rattle.plain_model.specs.declared.entries.Answer.TheVariants.{Dm as Told}
-use Rattle.plain_model.specs.declared.entries.Entry.{Entry}
 use Rattle.plain_model.specs.Effects.{change_of}
-use Rattle.plain_model.specs.State.{Held, State, just_opened, changed}
+use Rattle.plain_model.specs.State.{State, changed}
 use Rattle.plain_model.specs.Stands.{InOrder}
-use Rattle.plain_model.specs.Exact.{IsAnswer, left_by, state_by}
+use Rattle.plain_model.specs.Exact.{IsAnswer, left_by}
 use Rattle.dm_service.specs.Handing.{HandsOut}
-use Rattle.hsm_policy.specs.Settings.{Numbers}
 use Rattle.daemon_session.specs.Seats.{Seat, seat_asks, seat_hears}
-use Rattle.recall_daemon.specs.Known as recall
-use Rattle.recall_daemon.proofs.Outcomes.{TellsGone, AsksOn, Keeps, but_kept, seat_so}
-use Rattle.migrate_daemon.specs.Known as migrate
-use Rattle.hsm_core.specs.Answers.{entry_of}
-use Rattle.hsm_core.specs.Packed.{HandsBy}
-use Rattle.marked_history.specs.Marks.{Mark, entries_of, exchange_by, no_daemons, made}
-use Rattle.marked_history.specs.Served.{Shown, nothing_shown, with_entry, learned, shown, RecallMay, MigrateMay, IsServedBy}
-use Rattle.marked_history.specs.Tokens.{IsTaken, KeepsAll, ServedKeepsAll}
-use Rattle.marked_history.proofs.Carrying.{Each, none_each, posted_each}
+use Rattle.recall_daemon.proofs.Outcomes.{TellsGone, AsksOn, Keeps, but_kept}
+use Rattle.marked_history.proofs.Carrying.{Each, posted_each}
 use Rattle.marked_history.proofs.Handing.{told_each, PostsParked}
 use Rattle.marked_history.proofs.AnyAnswer.{left_so}
-use Rattle.marked_history.proofs.Seating.{migrate_so}
-use Rattle.marked_history.proofs.Seen.{over, is_over, ordered_over, hands_over}
-use Rattle.marked_history.proofs.Walking.{KeptBy, kept_behind}
 use Rattle.marked_history.proofs.Remembering.{leads, stays}
-use Rattle.marked_history.proofs.Leaving.{left_given, Hands, told_gone, IsOn, own_reply, done_left}
+use Rattle.marked_history.proofs.Leaving.{Hands, told_gone, IsOn, own_reply, done_left}
 use Rattle.marked_history.proofs.Accounting.{mapped_in, Finds, Accounted, AllAccounted, all_later, changed_on, forgot_on}
 use Rattle.marked_history.proofs.OwnSeats.{HasToken, user_has, IsGiven, SeatMay, tables_on, gone_after, own_seat}
 

@@ -1,20 +1,15 @@
 -- In a served history a daemon with a session keeps each event of its kinds that is outstanding to that session, but for those that lines of the script took.
-use Rattle.std.proofs.Common.{◌≡◌, ℕ, ◌+◌, ◌≤◌, true, false, List, [], ◌∷◌, ◌++◌, Option, None, Some, inl, inr, refl, sym, ap, subst, append_assoc, ◌∙◌}
-use Rattle.std.proofs.lemmas.List.Elements.{All-weaker}
-use Rattle.std.specs.Prelude.{◌⊎◌, Contains}
-use Rattle.hsm_types.specs.Messages.{handed_out}
-use Rattle.hsm_types.specs.Sessions.{SessionTable, next_sid, queue_of, tokens_of}
-use Rattle.hsm_types.specs.declared.calls.Reply.{Reply}
+use Rattle.std.proofs.Common.{◌≡◌, ℕ, ◌+◌, List, [], ◌∷◌, ◌++◌, Option, None, Some, refl, sym, ap, subst, append_assoc, ◌∙◌}
+use Rattle.std.specs.Prelude.{Contains}
+use Rattle.hsm_types.specs.Sessions.{SessionTable}
 use Rattle.hsm_types.specs.declared.daemons.Daemon.{Daemon}
 use Rattle.hsm_types.specs.declared.daemons.Daemon.TheVariants.{Recall, Migrate}
 use Rattle.hsm_types.specs.declared.dm.DmCall.{DmCall}
 use Rattle.hsm_types.specs.declared.dm.DmCall.TheVariants as call
-use Rattle.hsm_types.specs.declared.dm.DmRefusal.TheVariants as why
 use Rattle.hsm_types.specs.declared.dm.DmReply.{DmReply}
 use Rattle.hsm_types.specs.declared.dm.DmReply.TheVariants as reply
 use Rattle.hsm_types.specs.declared.keys.Sid.{Sid}
 use Rattle.hsm_types.specs.declared.keys.Token.{Token}
-use Rattle.hsm_types.specs.declared.messages.Message.{Message}
 use Rattle.hsm_types.specs.declared.stores.Superblock.{Superblock}
 use Rattle.plain_model.specs.declared.entries.Action.{Action}
 use Rattle.plain_model.specs.declared.entries.Action.TheVariants.{Dm}
@@ -23,13 +18,12 @@ use Rattle.plain_model.specs.declared.entries.Actor.TheVariants.{Session}
 use Rattle.plain_model.specs.declared.entries.Answer.{Answer}
 use Rattle.plain_model.specs.declared.entries.Answer.TheVariants.{Dm as Told}
 use Rattle.plain_model.specs.declared.entries.Entry.{Entry}
-use Rattle.plain_model.specs.Effects.{change_of}
-use Rattle.plain_model.specs.State.{Held, State, just_opened, changed}
+use Rattle.plain_model.specs.State.{Held, State, just_opened}
 use Rattle.plain_model.specs.Stands.{InOrder}
 use Rattle.plain_model.specs.Exact.{IsAnswer, left_by, state_by}
 use Rattle.dm_service.specs.Handing.{HandsOut}
 use Rattle.hsm_policy.specs.Settings.{Numbers}
-use Rattle.daemon_session.specs.Seats.{Seat, seat_asks, seat_hears}
+use Rattle.daemon_session.specs.Seats.{Seat}
 use Rattle.recall_daemon.specs.Known as recall
 use Rattle.recall_daemon.proofs.Outcomes.{AsksOn, seat_so}
 use Rattle.migrate_daemon.specs.Known as migrate
@@ -38,17 +32,15 @@ use Rattle.hsm_core.specs.Packed.{HandsBy}
 use Rattle.marked_history.specs.Marks.{Mark, entries_of, exchange_by, no_daemons, made}
 use Rattle.marked_history.specs.Served.{Shown, nothing_shown, with_entry, learned, shown, RecallMay, MigrateMay, IsServedBy}
 use Rattle.marked_history.specs.Tokens.{line_told, FindsAgain, IsTaken, KeepsAll, ServedKeepsAll}
-use Rattle.marked_history.proofs.Carrying.{Each, none_each, posted_each}
-use Rattle.marked_history.proofs.Handing.{told_each, PostsParked}
-use Rattle.marked_history.proofs.AnyAnswer.{left_so}
+use Rattle.marked_history.proofs.Carrying.{Each, none_each}
 use Rattle.marked_history.proofs.Seating.{migrate_so}
 use Rattle.marked_history.proofs.Seen.{over, is_over, ordered_over, hands_over}
 use Rattle.marked_history.proofs.Walking.{KeptBy, kept_behind}
-use Rattle.marked_history.proofs.Remembering.{leads, stays}
 use Rattle.marked_history.proofs.Leaving.{left_given}
 use Rattle.marked_history.proofs.Lists.{all_and}
 use Rattle.marked_history.proofs.Accounting.{Finds, AllAccounted, none_accounted, seated_keeps}
-use Rattle.marked_history.proofs.BothSeats.{Moves, AreApart, moves_given, moves_apart, later_given, after, keeps_all, keeps_moved, line_on, other_on, other_way, left_tokened}
+use Rattle.marked_history.proofs.BothSeats.{Moves, AreApart, moves_given, moves_apart, later_given, after, keeps_all, keeps_moved, line_on, other_on}
+use Rattle.marked_history.proofs.BothSeats.{other_way, left_tokened}
 use Rattle.marked_history.proofs.OwnSeats.{HasToken, IsGiven, SeatMay}
 
 -- ---- tokens that lines took
@@ -158,7 +150,7 @@ module _ (s : Superblock) (st : State) (ordered : InOrder st) (done : List Mark)
       line_on s st ordered d (IsTaken d done) (IsTaken d (done ++ no_daemons (entry_of who what answer) ∷ [])) seat who what answer is given
       (λ u was. taken_more d done (no_daemons (entry_of who what answer)) u (not_by d u (no_daemons (entry_of who what answer)) (λ by. cc)) was)
       (λ sid most room bytes tokens u who_is what_is answer_is there.
-        subst (λ (e : Entry). IsTaken d (done ++ no_daemons e ∷ []) u) (λ i. entry_of (sym who_is i) (sym what_is i) (sym answer_is i)) (taken_by d done sid most room bytes tokens u there))
+      subst (λ (e : Entry). IsTaken d (done ++ no_daemons e ∷ []) u) (λ i. entry_of (sym who_is i) (sym what_is i) (sym answer_is i)) (taken_by d done sid most room bytes tokens u there))
       each
 
   other_more : (d e : Daemon) (seat other : Seat) (x : Sid) (c : DmCall) (a : DmReply) → (Some e ≡ Some d → ⊥) → AreApart seat other → SeatMay other x c → IsAnswer s st (Session x) (Dm c) (Told a) → IsGiven st.sessions seat
