@@ -23,7 +23,7 @@ module _ (E : Event → Type 0) where
   abbrev Keep : Seat → Type 0
   Keep seat = AllKept E seat.kept
 
-  remarked_keep : (s t : Seat) → Remarked s t → Keep s → Keep t
+  pub remarked_keep : (s t : Seat) → Remarked s t → Keep s → Keep t
   remarked_keep s t (inl same) keep = subst Keep (sym same) keep
   remarked_keep s t (inr is) keep = subst Keep (sym is.2) (changed_kept E is.0 is.1 s.kept keep)
 

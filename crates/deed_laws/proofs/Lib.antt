@@ -6,6 +6,7 @@ mod Telling
 mod Coming
 mod TakingOver
 mod MakingAnew
+mod Causing
 pub mod Going
 mod Seats
 mod KeepingAll

@@ -85,7 +85,7 @@ one_remarked t k = elim (has_kept_token t k) as (λ (b : Bool). (if b then recor
 off_remarked : (t : Token) (k : recalls.Known) → Remarked k.seat (recalls.put_off t k).seat
 off_remarked t k = inr (marked_one t, one_remarked t, refl)
 
-recall_missed : (k : recalls.Known) (c : DmCall) → Remarked k.seat (recalls.misses k c).seat
+pub recall_missed : (k : recalls.Known) (c : DmCall) → Remarked k.seat (recalls.misses k c).seat
 recall_missed k (call.RequestRight t h right) = off_remarked t k
 recall_missed k (call.GetFileAttr t h) = off_remarked t k
 recall_missed k (call.GetAllocInfo t h) = off_remarked t k
@@ -128,6 +128,11 @@ recall_sits = record {
   answered = recall_answered;
   unanswered = λ m h none. recall_unanswered m.known m.asked h none;
 }
+
+-- of one that sits so
+pub recall_asked : (m : recall.Machine) → recall_sits.IsSo m → (x : Sid) (c : DmCall) → m.asked ≡ act.Dm x c → recalls.asks m.known c ≡ m.known
+unfolding recall_sits
+recall_asked m so = so
 
 pub recall_known : IsKnown lives.recalls (λ (m : recall.Machine). m.known) recall_knows
 recall_known = record { first = refl; again = λ m. refl; goes = λ old told asked new goes. goes.known }

@@ -7,6 +7,7 @@ ghost use Rattle.hsm_types.specs.declared.stores.Superblock.{Superblock};
 ghost use Rattle.plain_model.specs.State.{Held};
 ghost use Rattle.hsm_policy.specs.Settings.{Numbers};
 ghost use Rattle.deeds.specs.Deeds.{Deed};
+ghost use Rattle.deed_laws.specs.Caused.{ServedIsCaused};
 ghost use Rattle.deed_laws.specs.Coming.{ServedMakesAnew, ServedTakesOver};
 ghost use Rattle.deed_laws.specs.Keeping.{ServedKeepsAll, LosesNoAnswer};
 ghost use Rattle.deed_laws.specs.Telling.{ServedTellsOne};
@@ -31,6 +32,11 @@ pub fn takes_over()
 /// lost.
 pub fn keeps_all()
     ensures { (daemon : Daemon) (limits : Numbers) (s : Superblock) (base : ℕ) (opening : Held) (deeds : List Deed) → ServedKeepsAll daemon limits s base opening deeds }
+{}
+
+/// Each answer that names a fault of a medium is caused: its session was told, after the access was parked, that bytes of its file are away in that object.
+pub fn is_caused()
+    ensures { (limits : Numbers) (s : Superblock) (base : ℕ) (opening : Held) (deeds : List Deed) → ServedIsCaused limits s base opening deeds }
 {}
 
 /// Among deeds of which none is a loss no answer is lost, as among those that follow lines.

@@ -3,4 +3,4 @@
 
 mod laws;
 
-pub use laws::{keeps_all, loses_no_answer, makes_anew, takes_over, tells_one};
+pub use laws::{is_caused, keeps_all, loses_no_answer, makes_anew, takes_over, tells_one};

@@ -37,7 +37,7 @@ use Rattle.hsm_policy.specs.Settings.{Numbers}
 use Rattle.daemon_session.specs.declared.events.Event.{Event}
 use Rattle.daemon_session.specs.declared.events.Kept.{Kept}
 use Rattle.recall_daemon.specs.Known.{Known, Hand, nothing_known, taken, handling, asks, back_in, failed, unrestored, unanswered, hears}
-use Rattle.recall_daemon.specs.Known.{away_at, away_in}
+use Rattle.recall_daemon.specs.Known.{away_at, away_in, Holds}
 use Rattle.recall_daemon.specs.declared.away.Away.{Away}
 use Rattle.migrate_daemon.specs.Machine.{answer_of}
 use Rattle.hsm_core.specs.Answers.{entry_of}
@@ -64,6 +64,24 @@ away_each whole (x ∷ l) n each = cons_each (λ (a : Away). Contains whole (Off
 away_told : (segments : List Segment) → All (λ (a : Away). Contains segments (Offline a.entry)) (away_in segments)
 away_told segments = away_each segments segments 0 (All-contains_itself segments)
 
+-- ---- its calls
+
+-- what those rest on of which more is known than that they were made
+abbrev pub RestsOn : Known → Sid → DmCall → Type 0
+RestsOn k sid (call.RequestRight t h right) = IsTold k.seat.kept t h
+RestsOn k sid (call.GetAllocInfo t h) = (k.seat.sid ≡ Some sid) × ((hand : Hand) × Holds k t h hand)
+RestsOn k sid c = Unit {0}
+
+rests_on : (k : Known) (sid : Sid) (c : DmCall) → RecallMay k sid c → RestsOn k sid c
+rests_on k sid (call.RequestRight t h right) may = may.2
+rests_on k sid (call.GetAllocInfo t h) may = (may.0.session, may.1)
+rests_on k sid c may = tt
+
+-- migration's answers name no fault
+pub no_fault : (punched : Bool) (fault : Fault) → Media fault ≡ answer_of punched → ⊥
+no_fault true fault is = cc
+no_fault false fault is = cc
+
 module _ (s : Superblock) (st : State) where
   -- ---- what the recall daemon knows
 
@@ -78,7 +96,7 @@ module _ (s : Superblock) (st : State) where
     pub away : Contains segments (Offline a.entry)
 
   -- the event is that of an access that was parked
-  abbrev EventOf : List Entry → Event → Type 0
+  abbrev pub EventOf : List Entry → Event → Type 0
   EventOf es e = WasParked s st es e.token e.handle
 
   abbrev IsKeptOf : List Entry → Kept → Type 0
@@ -97,7 +115,7 @@ module _ (s : Superblock) (st : State) where
     pub kept : All (IsKeptOf es) k.seat.kept
     pub hand : IfSome k.hand (IsHandOf es k.seat.sid)
 
-  nothing_by : (es : List Entry) → IsKnownBy es nothing_known
+  pub nothing_by : (es : List Entry) → IsKnownBy es nothing_known
   nothing_by es = record { kept = All-nil (IsKeptOf es); hand = tt }
 
   -- ---- an entry more
@@ -127,12 +145,12 @@ module _ (s : Superblock) (st : State) where
   kept_more : (es more : List Entry) (kept : List Kept) → All (IsKeptOf es) kept → All (IsKeptOf (es ++ more)) kept
   kept_more es more kept each = All-weaker (IsKeptOf es) (IsKeptOf (es ++ more)) (λ x. parked_more s st es more x.event.token x.event.handle) kept each
 
-  known_more : (es more : List Entry) (k : Known) → IsKnownBy es k → IsKnownBy (es ++ more) k
+  pub known_more : (es more : List Entry) (k : Known) → IsKnownBy es k → IsKnownBy (es ++ more) k
   known_more es more k is = record { kept = kept_more es more k.seat.kept is.kept; hand = hand_more es more k.seat.sid k.hand is.hand }
 
   -- ---- what is heard of the event in hand
 
-  abbrev HandOf : List Entry → Known → Type 0
+  abbrev pub HandOf : List Entry → Known → Type 0
   HandOf es k = IfSome k.hand (IsHandOf es k.seat.sid)
 
   module _ (es : List Entry) (k : Known) (is : HandOf es k) where
@@ -174,7 +192,7 @@ module _ (s : Superblock) (st : State) where
   -- ---- its calls
 
   -- the event that it asks a right for was kept
-  asked_parked : (es : List Entry) (kept : List Kept) (t : Token) (h : Handle) → All (IsKeptOf es) kept → IsTold kept t h → WasParked s st es t h
+  pub asked_parked : (es : List Entry) (kept : List Kept) (t : Token) (h : Handle) → All (IsKeptOf es) kept → IsTold kept t h → WasParked s st es t h
   asked_parked es kept t h each is =
       let own : WasParked s st es is.0.token is.0.handle = All-contains (IsKeptOf es) kept (record { event = is.0; marked = is.1.0 }) each is.1.1 in
       subst (λ (x : Handle). WasParked s st es t x) is.3 (subst (λ (x : Token). WasParked s st es x is.0.handle) is.2 own)
@@ -214,14 +232,14 @@ module _ (s : Superblock) (st : State) where
       on : (c : DmCall) (answer : DmReply) → HandOf (after c answer) k
       on c answer = hand_more before (entry_of (Session sid) (Dm c) (Told answer) ∷ []) k.seat.sid k.hand is.hand
 
-      hand_by : (c : DmCall) (answer : DmReply) → RecallMay k sid c → HandOf (after c answer) (hears (asks k c) c answer)
+      hand_by : (c : DmCall) (answer : DmReply) → RestsOn k sid c → HandOf (after c answer) (hears (asks k c) c answer)
       hand_by call.GetAllSessions answer may = tt
       hand_by (call.CreateSession old info) answer may = tt
-      hand_by (call.RequestRight t h right) reply.Done may = taken_by t h right reply.Done may.2
-      hand_by (call.RequestRight t h right) answer may = failed_by (after (call.RequestRight t h right) answer) (record { seat = k.seat; hand = Some (taken t h) }) (taken_by t h right answer may.2) t answer
+      hand_by (call.RequestRight t h right) reply.Done may = taken_by t h right reply.Done may
+      hand_by (call.RequestRight t h right) answer may = failed_by (after (call.RequestRight t h right) answer) (record { seat = k.seat; hand = Some (taken t h) }) (taken_by t h right answer may) t answer
       hand_by (call.GetFileAttr t h) (reply.Attr size stamp blocks) may = sized_by (after (call.GetFileAttr t h) (reply.Attr size stamp blocks)) k (on (call.GetFileAttr t h) (reply.Attr size stamp blocks)) size
       hand_by (call.GetFileAttr t h) answer may = failed_by (after (call.GetFileAttr t h) answer) k (on (call.GetFileAttr t h) answer) t answer
-      hand_by (call.GetAllocInfo t h) (reply.Alloc segments) may = listed t h segments k.seat.sid k.hand may.1.0 may.0.session may.1.1.0 may.1.1.2 is.hand
+      hand_by (call.GetAllocInfo t h) (reply.Alloc segments) may = listed t h segments k.seat.sid k.hand may.1.0 may.0 may.1.1.0 may.1.1.2 is.hand
       hand_by (call.GetAllocInfo t h) answer may = failed_by (after (call.GetAllocInfo t h) answer) k (on (call.GetAllocInfo t h) answer) t answer
       hand_by (call.Restore t h j bytes) reply.Done may = restored_by (after (call.Restore t h j bytes) reply.Done) k (on (call.Restore t h j bytes) reply.Done) j
       hand_by (call.Restore t h j bytes) (reply.Refused w) may = unrestored_by (after (call.Restore t h j bytes) (reply.Refused w)) k (on (call.Restore t h j bytes) (reply.Refused w)) t w
@@ -231,13 +249,13 @@ module _ (s : Superblock) (st : State) where
       hand_by (call.Respond t response) answer may = tt
       hand_by c answer may = subst (λ (x : Option Sid). IfSome k.hand (IsHandOf (after c answer) x)) (sym (stays Recall k.seat c answer refl)) (on c answer)
 
-      call_by : (c : DmCall) (answer : DmReply) → TellsOnly (EventOf before) Recall c answer → RecallMay k sid c → IsKnownBy (after c answer) (hears (asks k c) c answer)
+      pub call_by : (c : DmCall) (answer : DmReply) → TellsOnly (EventOf before) Recall c answer → RestsOn k sid c → IsKnownBy (after c answer) (hears (asks k c) c answer)
       call_by c answer tells may = record { kept = kept_more before _ _ (recall_kept (EventOf before) k c answer is.kept tells); hand = hand_by c answer may }
 
   -- ---- any entry
 
   -- what the store gives
-  abbrev GivenBy : List Entry → Actor → Action → Answer → Type 0
+  abbrev pub GivenBy : List Entry → Actor → Action → Answer → Type 0
   GivenBy before (Session sid) (Dm c) (Told answer) = TellsOnly (EventOf before) Recall c answer
   GivenBy before who what answer = Unit {0}
 
@@ -250,12 +268,12 @@ module _ (s : Superblock) (st : State) where
         → IsKnownBy (before ++ entry_of who what answer ∷ []) (with_entry limits by (exchange_by who what answer) k).recall
     entry_by None who what answer given served = known_more before _ k.recall is
     entry_by (Some Migrate) who what answer given served = subst (IsKnownBy (before ++ entry_of who what answer ∷ [])) (sym (others_entry (exchange_by who what answer))) (known_more before _ k.recall is)
-    entry_by (Some Recall) (Session sid) (Dm c) (Told answer) given served = call_by before sid k.recall is c answer given served
+    entry_by (Some Recall) (Session sid) (Dm c) (Told answer) given served = call_by before sid k.recall is c answer given (rests_on k.recall sid c served)
     entry_by (Some Recall) who what answer given served = absurd served
 
   -- ---- causes
 
-  cause_of : (es : List Entry) (k : Known) (sid : Sid) (t : Token) (fault : Fault) → IsKnownBy es k → RecallMay k sid (call.Respond t (Media fault)) → IsCausedBy s st es sid t fault
+  pub cause_of : (es : List Entry) (k : Known) (sid : Sid) (t : Token) (fault : Fault) → IsKnownBy es k → RecallMay k sid (call.Respond t (Media fault)) → IsCausedBy s st es sid t fault
   cause_of es k sid t fault is may =
       let hand : Hand = may.1.0 in
       let known : IsHandOf es k.seat.sid hand = subst (λ (x : Option Hand). IfSome x (IsHandOf es k.seat.sid)) may.1.1 is.hand in
@@ -275,10 +293,6 @@ module _ (s : Superblock) (st : State) where
         names = may.1.3.2;
       }
 
-  no_fault : (punched : Bool) (fault : Fault) → Media fault ≡ answer_of punched → ⊥
-  no_fault true fault is = cc
-  no_fault false fault is = cc
-
   served_cause : (es : List Entry) (k : Shown) (by : Option Daemon) (sid : Sid) (t : Token) (fault : Fault) → IsKnownBy es k.recall
       → IsServedBy by k (record { entry = entry_of (Session sid) (Dm (call.Respond t (Media fault))) (Told reply.Done); by = by }) → IsCausedBy s st es sid t fault
   served_cause es k None sid t fault is served = absurd served
@@ -287,13 +301,14 @@ module _ (s : Superblock) (st : State) where
 
   -- ---- whole histories
 
-  module _ (limits : Numbers) (es : List Entry) (none : st.sessions ≡ no_sessions) (exact : ExactSeen ⊥ s st es) where
-    given_by : (before : List Entry) (who : Actor) (what : Action) (answer : Answer) (rest : List Entry) → es ≡ before ++ entry_of who what answer ∷ rest → HandsBy (state_by s st before) who what answer → GivenBy before who what answer
+  module _ (es : List Entry) (none : st.sessions ≡ no_sessions) (exact : ExactSeen ⊥ s st es) where
+    pub given_by : (before : List Entry) (who : Actor) (what : Action) (answer : Answer) (rest : List Entry) → es ≡ before ++ entry_of who what answer ∷ rest → HandsBy (state_by s st before) who what answer → GivenBy before who what answer
     given_by before (Session sid) (Dm c) (Told answer) rest is hands =
         tells_each (EventOf before) Recall (IsOfParked s st before) (λ m h of own has. subst (λ (found : Option Handle). IfSome found (λ x. WasParked s st before m.token x)) has of) (state_by s st before).sessions sid c answer
         (each_parked s st es none exact before (entry_of (Session sid) (Dm c) (Told answer)) rest is) hands
     given_by before who what answer rest is hands = tt
 
+  module _ (limits : Numbers) (es : List Entry) (none : st.sessions ≡ no_sessions) (exact : ExactSeen ⊥ s st es) where
     caused_on : (done : List Entry) (k : Shown) (marks : List Mark) → es ≡ done ++ entries_of marks → ArePacked s (state_by s st done) (entries_of marks) → IsKnownBy done k.recall → ServedFrom limits k marks
         → (before : List Entry) (sid : Sid) (t : Token) (fault : Fault) (rest : List Entry) → entries_of marks ≡ before ++ entry_of (Session sid) (Dm (call.Respond t (Media fault))) (Told reply.Done) ∷ rest
         → IsCausedBy s st (done ++ before) sid t fault
@@ -306,7 +321,7 @@ module _ (s : Superblock) (st : State) where
     caused_on done k (m ∷ marks) whole packed known served (b ∷ before) sid t fault rest is =
         let same : m.entry ≡ b = cc in
         let later : entries_of marks ≡ before ++ entry_of (Session sid) (Dm (call.Respond t (Media fault))) (Told reply.Done) ∷ rest = cc in
-        let known_next : IsKnownBy (done ++ m.entry ∷ []) (learned limits k m).recall = entry_by limits done k known m.by m.entry.actor m.entry.action m.entry.answer (given_by done m.entry.actor m.entry.action m.entry.answer (entries_of marks) whole packed.0) served.0 in
+        let known_next : IsKnownBy (done ++ m.entry ∷ []) (learned limits k m).recall = entry_by limits done k known m.by m.entry.actor m.entry.action m.entry.answer (given_by es none exact done m.entry.actor m.entry.action m.entry.answer (entries_of marks) whole packed.0) served.0 in
         subst (λ (l : List Entry). IsCausedBy s st l sid t fault) (append_assoc done (m.entry ∷ []) before ∙ ap (λ (e : Entry). done ++ e ∷ before) same)
         (caused_on (done ++ m.entry ∷ []) (learned limits k m) marks (whole ∙ sym (append_assoc done (m.entry ∷ []) (entries_of marks)))
         (subst (λ (y : State). ArePacked s y (entries_of marks)) (sym (state_by-push s st done m.entry)) packed.1) known_next served.1 before sid t fault rest later)

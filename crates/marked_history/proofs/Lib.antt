@@ -7,7 +7,7 @@ pub mod Seating
 pub mod Remembering
 pub mod Seen
 mod Walking
-mod Causing
+pub mod Causing
 mod Outstanding
 pub mod Leaving
 pub mod Accounting
