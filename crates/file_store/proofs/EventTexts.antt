@@ -1,5 +1,5 @@
 -- The texts of the records of an event, which an empty journal has room for.
-use Rattle.std.proofs.Common.{◌≡◌, ℕ, ◌+◌, ◌-◌, ◌*◌, ◌/◌, ◌%◌, ◌≤◌, List, [], ◌∷◌, ◌++◌, length, map, Bool, true, false, cond, eqb, Option, Some, None}
+use Rattle.std.proofs.Common.{◌≡◌, ℕ, suc, ◌+◌, ◌-◌, ◌*◌, ◌/◌, ◌%◌, ◌≤◌, List, [], ◌∷◌, ◌++◌, length, map, Bool, true, false, cond, eqb, Option, Some, None}
 use Rattle.std.proofs.Common.{is_some, refl, ap, subst, arith, length-append}
 use Rattle.std.specs.List.{AllByRecursion, flat_map}
 use Rattle.commit_slots.specs.Places.{layout_of}
@@ -84,7 +84,7 @@ digests_found c k f lawful found j = by (stub_at j f.kept.stubs) refl
 
     by : (o : Option StubOf) → stub_at j f.kept.stubs ≡ o → HasDigest o
     by None is = tt
-    by (Some stub) is = (each-at (IsCatalogStub f) f.kept.stubs j stub file.stubs is).numbers.digest
+    by (Some stub) is = (each-at (IsCatalogStub f) f.kept.stubs j stub file.stubs is).numbers.entry.digest
 
 -- ---- a punch
 
