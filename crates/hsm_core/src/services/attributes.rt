@@ -1,5 +1,5 @@
 //! Calls on the attributes that sessions give a live file.
-ghost use Rattle.std.specs.Prelude.{◌≡◌, false, IsSome, IfOk};
+ghost use Rattle.std.specs.Prelude.{◌≡◌, ◌≤◌, false, IsSome, IfOk};
 ghost use Rattle.hsm_types.specs.Messages.{no_token};
 ghost use Rattle.hsm_types.specs.declared.dm.DmCall.TheVariants.{SetDmAttr, GetDmAttr, RemoveDmAttr, GetAllDmAttr};
 ghost use Rattle.hsm_types.specs.Keyed.{find_key};
