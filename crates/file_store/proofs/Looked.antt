@@ -12,9 +12,9 @@ use Rattle.plain_model.specs.Plain.{segment}
 use Rattle.plain_model.specs.Seen.{IsOfSeen}
 use Rattle.plain_model.specs.State.{Held, bytes_of}
 use Rattle.plain_model.proofs.Alike.{size_alike}
-use Rattle.file_store.specs.declared.refusal.StoreRefusal.{StoreRefusal}
+use Rattle.snapshot_text.specs.declared.refusal.MetaRefusal.{MetaRefusal}
 use Rattle.file_store.specs.Looks.{Looks}
-use Rattle.file_store.specs.Refusals.{no_memory}
+use Rattle.snapshot_text.specs.Refusals.{no_memory}
 use Rattle.file_store.proofs.Ended.{ends_done, lacking}
 
 -- what is so of the files as they are held, whatever the disk tells
@@ -40,5 +40,5 @@ module _ {D T : Type 0} {g : Ghosts D} {s : Store D} (reads : OnlyReads g s.disk
   pub looks_done : (x : T) → Looks g s (Ok x) s
   looks_done x = record { reads = reads; meta = refl; held = refl; durable = refl; space = refl; ends = λ n. ends_done g s s n None (works_on works n) x refl works refl }
 
-  pub looks_lacking : (r : Result T StoreRefusal) → IsErrAnd r (λ why. why ≡ no_memory) → Looks g s r s
+  pub looks_lacking : (r : Result T MetaRefusal) → IsErrAnd r (λ why. why ≡ no_memory) → Looks g s r s
   looks_lacking r is = record { reads = reads; meta = refl; held = refl; durable = refl; space = refl; ends = λ n. lacking works_on works r is }

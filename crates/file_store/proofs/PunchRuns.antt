@@ -9,11 +9,6 @@ use Rattle.hsm_types.specs.declared.regions.Region.{Region}
 use Rattle.hsm_types.specs.declared.stubs.Stub.{Stub as StubOf}
 use Rattle.journal_records.specs.declared.records.Record.{Record}
 use Rattle.journal_records.specs.declared.records.Record.TheVariants.{Stub}
-use Rattle.std.specs.Prelude.{Result, Ok, Err}
-use Rattle.std.specs.Result.{IsErrAnd, IsErrOf}
-use Rattle.file_store.specs.Refusals.{refused_part}
-use Rattle.file_store.specs.declared.refusal.StoreRefusal.{StoreRefusal}
-use Rattle.file_store.specs.declared.refusal.StoreRefusal.TheVariants as store
 use Rattle.file_store.specs.Punches.{away_by, punch_records}
 
 run_joins : (a m n k : ℕ) → k ≡ m + n → from_on a k ≡ from_on a m ++ from_on (a + m) n
@@ -54,8 +49,3 @@ pub records_more : (ino : ℕ) (stubs : Stubs) (from i : ℕ) (stub : StubOf) (i
 records_more ino stubs from i stub items above are is =
     let what : ℕ → Record = λ j. Stub ino j (away_by (stub_at j stubs)) in
     sym (ap (map what) (run_at from i (i + 1) above (omega arith)) ∙ map-append what (from_on from (i - from)) (i ∷ from_on (i + 1) (i + 1 - (i + 1))) ∙ rw (nothing_behind i, is, ← are) refl)
-
--- the cause that was told is the one that was found
-pub told_part : {T : Type 0} (r : Result T StoreRefusal) (found why : DmRefusal) → IsErrAnd r (λ e. e ≡ refused_part found) → IsErrOf r (store.Part why) → found ≡ why
-told_part (Ok x) found why told is = cc
-told_part (Err e) found why told is = cc

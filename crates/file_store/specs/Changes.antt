@@ -6,13 +6,13 @@ use Rattle.hsm_types.specs.declared.dm.DmRefusal.{DmRefusal}
 use Rattle.hsm_types.specs.declared.keys.FileKey.{FileKey}
 use Rattle.plain_model.specs.Effects.{Effect}
 use Rattle.plain_model.specs.State.{affected_held}
-use Rattle.file_store.specs.declared.refusal.StoreRefusal.{StoreRefusal}
-use Rattle.file_store.specs.declared.refusal.StoreRefusal.TheVariants.{Part, Memory}
+use Rattle.snapshot_text.specs.declared.refusal.MetaRefusal.{MetaRefusal}
+use Rattle.snapshot_text.specs.declared.refusal.MetaRefusal.TheVariants.{Part, Memory}
 use Rattle.file_store.specs.Stores.{Store, Proceeds, TellsFaults}
 
 -- By what refuses it, if anything does: then it isn't done, no other refusal is told, and where that one is told all is as before. Without memory all is
 -- held as before, and the store works; a fault of the disk closes it. However it ends, it proceeds under that number.
-pub record Ends {D T : Type 0} (g : disk.Ghosts D) (old : Store D) (n : ℕ) (refusal : Option DmRefusal) (result : Result T StoreRefusal) (new : Store D) : Type 0 where
+pub record Ends {D T : Type 0} (g : disk.Ghosts D) (old : Store D) (n : ℕ) (refusal : Option DmRefusal) (result : Result T MetaRefusal) (new : Store D) : Type 0 where
   pub judged : OnOk result (refusal ≡ None)
   pub refused : (why : DmRefusal) → IsErrOf result (Part why) → refusal ≡ Some why
   pub unchanged : (why : DmRefusal) → IsErrOf result (Part why) → new ≡ old
@@ -22,6 +22,6 @@ pub record Ends {D T : Type 0} (g : disk.Ghosts D) (old : Store D) (n : ℕ) (re
   pub proceeds : Proceeds g old n new
 
 -- A change of the file with that key ends so, and is done by that effect.
-pub record Changes {D T : Type 0} (g : disk.Ghosts D) (old : Store D) (n : ℕ) (key : FileKey) (effect : Effect) (refusal : Option DmRefusal) (result : Result T StoreRefusal) (new : Store D) : Type 0 where
+pub record Changes {D T : Type 0} (g : disk.Ghosts D) (old : Store D) (n : ℕ) (key : FileKey) (effect : Effect) (refusal : Option DmRefusal) (result : Result T MetaRefusal) (new : Store D) : Type 0 where
   pub held : OnOk result (new.held ≡ record old.held { files = affected_held effect key old.held.files })
   pub ends : Ends g old n refusal result new

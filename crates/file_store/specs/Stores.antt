@@ -21,8 +21,8 @@ use Rattle.meta_store.specs.Catalogs.{Catalog, blocks_of}
 use Rattle.meta_store.specs.Catalogs.{names_of as names_in}
 use Rattle.meta_store.specs.Images.{IsImage, blocks_in_image}
 use Rattle.meta_store.specs.Meta.{Meta, IsMeta, Backs}
-use Rattle.file_store.specs.declared.refusal.StoreRefusal.{StoreRefusal}
-use Rattle.file_store.specs.declared.refusal.StoreRefusal.TheVariants.{Disk}
+use Rattle.snapshot_text.specs.declared.refusal.MetaRefusal.{MetaRefusal}
+use Rattle.snapshot_text.specs.declared.refusal.MetaRefusal.TheVariants.{Disk}
 use Rattle.file_store.specs.Bodies.{held_at}
 
 -- Recovery finds this under that number: the catalog of the image, with the bytes of its data blocks.
@@ -79,7 +79,7 @@ pub record Proceeds {D : Type 0} (g : disk.Ghosts D) (old : Store D) (n : ℕ) (
   pub durable : (new.meta.number ≡ old.meta.number) × (new.durable ≡ old.durable) ⊎ (new.meta.number ≡ n) × (new.durable ≡ old.held)
 
 -- A call of the disk failed exactly where that is answered, and then the store is closed.
-pub record TellsFaults {D T : Type 0} (g : disk.Ghosts D) (result : Result T StoreRefusal) (old new : Store D) : Type 0 where
+pub record TellsFaults {D T : Type 0} (g : disk.Ghosts D) (result : Result T MetaRefusal) (old new : Store D) : Type 0 where
   pub closes : IsErrOf result Disk → new.failed ≡ true
   pub counts : Counts (IsErrOf result Disk) (g.fault_count old.disk) (g.fault_count new.disk)
 

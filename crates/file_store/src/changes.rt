@@ -21,7 +21,6 @@ ghost use Rattle.file_store.specs.Stores.{superblock_of};
 ghost use Rattle.file_store.specs.Changes.{Ends, Changes};
 
 use crate::punches;
-use crate::refusal::StoreRefusal;
 use crate::rewrites::Rewrite;
 use crate::store::FileStore;
 use disk_model::Disk;
@@ -30,11 +29,12 @@ use hsm_types::{
     segments_in,
 };
 use journal_records::Record;
+use snapshot_text::MetaRefusal;
 use std::alloc::Global;
 
 impl<D: Disk> FileStore<D> {
     /// Makes an empty file with the lowest free inode and the next generation. Past the greatest generation it answers `Memory`.
-    pub fn make(&mut self, alloc: Global, name: &Word, number: u64) -> Result<FileKey, StoreRefusal>
+    pub fn make(&mut self, alloc: Global, name: &Word, number: u64) -> Result<FileKey, MetaRefusal>
         requires working { self.old.failed ≡ false }
         requires rises { self.old.meta.number ≤ number }
         requires lawful { is_name name.now ≡ true }
@@ -43,13 +43,13 @@ impl<D: Disk> FileStore<D> {
         ensures key { IfOk result (λ key. key ≡ next_key self.old.held) }
         ensures held { OnOk result (self.new.held ≡ record { files = affected_held (Makes name.now) (next_key self.old.held) self.old.held.files; next = self.old.held.next + 1 }) }
         ensures ends { Ends D.Disk self.old number None result self.new }
-        ensures memory { IsErrOf result StoreRefusal.Memory → self.new ≡ self.old }
+        ensures memory { IsErrOf result MetaRefusal.Memory → self.new ≡ self.old }
     {
         // Asked for what is true of the disk.
         let _failed = self.has_failed();
         let key = self.meta.catalog().names().next_key();
         if key.igen >= LAST_GENERATION {
-            return Err(StoreRefusal::Memory);
+            return Err(MetaRefusal::Memory);
         }
         let name = name.clone()?;
         self.record(alloc, key, Record::Make { key, name }, number)?;
@@ -57,7 +57,7 @@ impl<D: Disk> FileStore<D> {
     }
 
     /// Removes a live file.
-    pub fn remove(&mut self, alloc: Global, key: FileKey, number: u64) -> Result<(), StoreRefusal>
+    pub fn remove(&mut self, alloc: Global, key: FileKey, number: u64) -> Result<(), MetaRefusal>
         requires working { self.old.failed ≡ false }
         requires rises { self.old.meta.number ≤ number }
         requires live { IsSome (find_key (λ f. f.key) key self.old.held.files) }
@@ -75,7 +75,7 @@ impl<D: Disk> FileStore<D> {
         offset: u64,
         bytes: &[u8],
         number: u64,
-    ) -> Result<(), StoreRefusal>
+    ) -> Result<(), MetaRefusal>
         requires working { self.old.failed ≡ false }
         requires rises { self.old.meta.number ≤ number }
         requires live { IsSome (find_key (λ f. f.key) key self.old.held.files) }
@@ -98,7 +98,7 @@ impl<D: Disk> FileStore<D> {
         key: FileKey,
         size: u64,
         number: u64,
-    ) -> Result<(), StoreRefusal>
+    ) -> Result<(), MetaRefusal>
         requires working { self.old.failed ≡ false }
         requires rises { self.old.meta.number ≤ number }
         requires live { IsSome (find_key (λ f. f.key) key self.old.held.files) }
@@ -119,12 +119,12 @@ impl<D: Disk> FileStore<D> {
         key: FileKey,
         regions: Regions,
         number: u64,
-    ) -> Result<(), StoreRefusal>
+    ) -> Result<(), MetaRefusal>
         requires working { self.old.failed ≡ false }
         requires rises { self.old.meta.number ≤ number }
         requires live { IsSome (find_key (λ f. f.key) key self.old.held.files) }
         ensures changed { Changes D.Disk self.old number key (Manages regions) (first_refusal (regions_refusal (superblock_of self.old).geometry.limits regions ∷ uncovered regions (kept_of key self.old.held.files).stubs ∷ [])) result self.new }
-        ensures memory { IsErrOf result StoreRefusal.Memory → self.new ≡ self.old }
+        ensures memory { IsErrOf result MetaRefusal.Memory → self.new ≡ self.old }
     {
         let ino = self.inode(key);
         self.record(alloc, key, Record::Regions { ino, regions }, number)
@@ -138,12 +138,12 @@ impl<D: Disk> FileStore<D> {
         name: AttrName,
         value: Bytes,
         number: u64,
-    ) -> Result<(), StoreRefusal>
+    ) -> Result<(), MetaRefusal>
         requires working { self.old.failed ≡ false }
         requires rises { self.old.meta.number ≤ number }
         requires live { IsSome (find_key (λ f. f.key) key self.old.held.files) }
         ensures changed { Changes D.Disk self.old number key (Attaches name value) (setting_refusal name value (other_attributes key self.old.held.files) (superblock_of self.old).geometry.attributes (kept_of key self.old.held.files).attributes) result self.new }
-        ensures memory { IsErrOf result StoreRefusal.Memory → self.new ≡ self.old }
+        ensures memory { IsErrOf result MetaRefusal.Memory → self.new ≡ self.old }
     {
         let ino = self.inode(key);
         // Read for the eight bytes of each name.
@@ -158,12 +158,12 @@ impl<D: Disk> FileStore<D> {
         key: FileKey,
         name: AttrName,
         number: u64,
-    ) -> Result<(), StoreRefusal>
+    ) -> Result<(), MetaRefusal>
         requires working { self.old.failed ≡ false }
         requires rises { self.old.meta.number ≤ number }
         requires live { IsSome (find_key (λ f. f.key) key self.old.held.files) }
         ensures changed { Changes D.Disk self.old number key (Detaches name) (removal_refusal name (kept_of key self.old.held.files).attributes) result self.new }
-        ensures memory { IsErrOf result StoreRefusal.Memory → self.new ≡ self.old }
+        ensures memory { IsErrOf result MetaRefusal.Memory → self.new ≡ self.old }
     {
         let ino = self.inode(key);
         // Read for the eight bytes of each name.
@@ -179,7 +179,7 @@ impl<D: Disk> FileStore<D> {
         segment: u32,
         entry: StubEntry,
         number: u64,
-    ) -> Result<(), StoreRefusal>
+    ) -> Result<(), MetaRefusal>
         requires working { self.old.failed ≡ false }
         requires rises { self.old.meta.number ≤ number }
         requires live { IsSome (find_key (λ f. f.key) key self.old.held.files) }
@@ -188,7 +188,7 @@ impl<D: Disk> FileStore<D> {
         requires here { offline_at (kept_of key self.old.held.files).stubs segment ≡ false }
         requires print { IsOfSeen (Tells D.Disk self.old.disk) self.old.held (λ seen. entry_print entry ≡ print_of (segment_of segment (bytes_of key seen.files))) }
         ensures changed { Changes D.Disk self.old number key (Seals segment entry) (too_many_stubs segment (other_stubs key self.old.held.files) (superblock_of self.old).geometry.stubs (kept_of key self.old.held.files).stubs) result self.new }
-        ensures memory { IsErrOf result StoreRefusal.Memory → self.new ≡ self.old }
+        ensures memory { IsErrOf result MetaRefusal.Memory → self.new ≡ self.old }
     {
         // Read for what is true of them.
         let (_meta, _len) = (&self.meta, digest_len(entry));
@@ -209,7 +209,7 @@ impl<D: Disk> FileStore<D> {
         from: u32,
         to: u32,
         number: u64,
-    ) -> Result<(), StoreRefusal>
+    ) -> Result<(), MetaRefusal>
         requires working { self.old.failed ≡ false }
         requires rises { self.old.meta.number ≤ number }
         requires live { IsSome (find_key (λ f. f.key) key self.old.held.files) }
@@ -232,7 +232,7 @@ impl<D: Disk> FileStore<D> {
         segment: u32,
         bytes: &Verified,
         number: u64,
-    ) -> Result<(), StoreRefusal>
+    ) -> Result<(), MetaRefusal>
         requires working { self.old.failed ≡ false }
         requires rises { self.old.meta.number ≤ number }
         requires live { IsSome (find_key (λ f. f.key) key self.old.held.files) }

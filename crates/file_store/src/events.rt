@@ -19,7 +19,6 @@ ghost use Rattle.meta_store.specs.Records.{CanStand, refusal_of};
 ghost use Rattle.file_store.specs.Rewrites.{effect_of, IsRewrite, IsAllowedBy, IsWithin, HasEntry, BringsOffline, BringsAway, HasRoom, touched_of};
 ghost use Rattle.file_store.specs.Rewrites.{places_for};
 ghost use Rattle.file_store.specs.Bodies.{IsAlike};
-ghost use Rattle.file_store.specs.Refusals.{is_disk, refused_as};
 ghost use Rattle.file_store.specs.Steps.{IsBesideBlocks, IsStaged};
 ghost use Rattle.file_store.specs.Changes.{Ends, Changes};
 ghost use Rattle.file_store.specs.Effects.{IsBodiless, IsFreed, held_after, empties};
@@ -27,7 +26,7 @@ ghost use Rattle.file_store.specs.Events.{IsAccess, IsSmall};
 
 use crate::loading::slot;
 use crate::plans::{self, Plan};
-use crate::refusal::StoreRefusal;
+use crate::refusals::is_disk;
 use crate::rewrites::Rewrite;
 use crate::store::FileStore;
 use crate::writing::put_blocks;
@@ -75,7 +74,7 @@ impl<D: Disk> FileStore<D> {
         key: FileKey,
         change: Rewrite<'_>,
         number: u64,
-    ) -> Result<(), StoreRefusal>
+    ) -> Result<(), MetaRefusal>
         requires working { self.old.failed ≡ false }
         requires rises { self.old.meta.number ≤ number }
         requires live { IsSome (find_key (λ f. f.key) key self.old.held.files) }
@@ -84,7 +83,7 @@ impl<D: Disk> FileStore<D> {
         ensures enough { OnOk result (length (touched (effect_of change.entry) (length (bytes_of key self.old.held.files))) ≤ length (free self.new.space)) }
         ensures held { self.new.held ≡ self.old.held }
         ensures ends { Ends D.Disk self.old number None result self.new }
-        ensures memory { IsErrOf result StoreRefusal.Memory → self.new ≡ self.old }
+        ensures memory { IsErrOf result MetaRefusal.Memory → self.new ≡ self.old }
     {
         // Asked for what is true of the disk.
         let _failed = self.has_failed();
@@ -102,7 +101,7 @@ impl<D: Disk> FileStore<D> {
         key: FileKey,
         change: Record,
         number: u64,
-    ) -> Result<(), StoreRefusal>
+    ) -> Result<(), MetaRefusal>
         requires working { self.old.failed ≡ false }
         requires rises { self.old.meta.number ≤ number }
         requires bodiless { IsBodiless key change self.old.meta.current }
@@ -110,14 +109,14 @@ impl<D: Disk> FileStore<D> {
         requires small { refusal_of change self.old.meta.current ≡ None → IsSmall change }
         ensures ends { Ends D.Disk self.old number (refusal_of change self.old.meta.current) result self.new }
         ensures held { OnOk result (self.new.held ≡ held_after key change self.old.held) }
-        ensures memory { IsErrOf result StoreRefusal.Memory → self.new ≡ self.old }
+        ensures memory { IsErrOf result MetaRefusal.Memory → self.new ≡ self.old }
     {
         let empty = empties(&change);
         // Asked for what is true of the disk.
         let _failed = self.has_failed();
         let freed = blocks_gone(alloc, self.meta.catalog(), key, &change)?;
         if number > LAST_NUMBER {
-            return Err(StoreRefusal::Memory);
+            return Err(MetaRefusal::Memory);
         }
         let records = plans::one(alloc, change)?;
         let before = Snapshot::of(&self.bodies);
@@ -129,8 +128,8 @@ impl<D: Disk> FileStore<D> {
                 Ok(())
             }
             Err(refusal) => {
-                self.failed = refusal == MetaRefusal::Disk;
-                Err(StoreRefusal::from(refusal))
+                self.failed = is_disk(refusal);
+                Err(refusal)
             }
         }
     }
@@ -143,7 +142,7 @@ impl<D: Disk> FileStore<D> {
         key: FileKey,
         change: Rewrite<'_>,
         number: u64,
-    ) -> Result<(), StoreRefusal>
+    ) -> Result<(), MetaRefusal>
         requires working { self.old.failed ≡ false }
         requires rises { self.old.meta.number ≤ number }
         requires live { IsSome (find_key (λ f. f.key) key self.old.held.files) }
@@ -160,7 +159,7 @@ impl<D: Disk> FileStore<D> {
         let _failed = self.has_failed();
         let before = Snapshot::of(&self.bodies);
         if number > LAST_NUMBER {
-            return Err(StoreRefusal::Memory);
+            return Err(MetaRefusal::Memory);
         }
         let body = &mut self.bodies[slot(key.ino)];
         let old = body.len();
@@ -168,7 +167,10 @@ impl<D: Disk> FileStore<D> {
         let (disk, space) = (&mut self.disk, &mut self.space);
         let staged = match stage(alloc, disk, catalog, space, body, key, change) {
             Ok(staged) => staged,
-            Err(refusal) => return Err(refused(&mut self.failed, refusal)),
+            Err(refusal) => {
+                self.failed = is_disk(refusal);
+                return Err(refusal);
+            }
         };
         let Staged { places, plan } = staged;
         let Plan { records, freed } = plan;
@@ -182,19 +184,11 @@ impl<D: Disk> FileStore<D> {
             Err(refusal) => {
                 change.undo(alloc, body, old);
                 self.space.release_all(places.as_slice());
-                Err(refused(&mut self.failed, refusal))
+                self.failed = is_disk(refusal);
+                Err(refusal)
             }
         }
     }
-}
-
-/// Tells a refusal of the layer below as the store's. Where the disk failed, so has the store.
-fn refused(failed: &mut bool, refusal: MetaRefusal) -> StoreRefusal
-    ensures failed { failed.new ≡ is_disk refusal }
-    ensures refusal { result ≡ refused_as refusal }
-{
-    *failed = refusal == MetaRefusal::Disk;
-    StoreRefusal::from(refusal)
 }
 
 /// A change of a file's bytes whose blocks are written: their places, and the plan of what comes then.

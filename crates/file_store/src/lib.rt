@@ -8,12 +8,11 @@ mod loading;
 mod opening;
 mod plans;
 mod punches;
-mod refusal;
+mod refusals;
 mod rewrites;
 mod spaces;
 mod store;
 mod writing;
 
 pub use laws::{formatted_is_empty, greatest_event, one_recovery};
-pub use refusal::StoreRefusal;
 pub use store::FileStore;

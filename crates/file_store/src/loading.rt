@@ -15,13 +15,12 @@ ghost use Rattle.file_body.specs.HeldBodies.{no_body, is_away, AreHere, SameAway
 ghost use Rattle.file_store.specs.Steps.{OnlyReads};
 ghost use Rattle.file_store.specs.Bodies.{body_at, held_at, held_with, AreBodies};
 
-use crate::StoreRefusal;
 use commit_slots::Layout;
 use disk_model::{Disk, Failed, read_at};
 use file_body::Body;
 use hsm_types::{BLOCK_BYTES, FILE_BYTES, SEGMENT_BYTES, segments_in};
 use meta_store::Catalog;
-use snapshot_text::geometry_of;
+use snapshot_text::{MetaRefusal, geometry_of};
 use std::alloc::{AllocError, Global};
 use stub_map::StubMap;
 
@@ -38,18 +37,18 @@ pub(crate) fn load_bodies<D: Disk>(
     alloc: Global,
     disk: &mut D,
     catalog: &Catalog,
-) -> Result<Vec<Body>, StoreRefusal>
+) -> Result<Vec<Body>, MetaRefusal>
     requires length { D.length_of disk.old ≡ (layout_of catalog.now.geometry).whole }
     ensures reads { OnlyReads D.Disk disk.old disk.new }
     ensures count { IfOk result (λ bodies. length bodies.items ≡ (geometry_of catalog.now.geometry).files) }
     // On a disk that doesn't tell, too.
     ensures sizes { IfOk result (λ bodies. AreBodies bodies.items catalog.now.files) }
     ensures loaded { IfOk result (λ bodies. (c : List ℕ) → D.gives disk.old c → held_with bodies.items catalog.now ≡ held_at (blocks_in_image catalog.now.geometry c) catalog.now) }
-    ensures faults { Counts (IsErrOf result StoreRefusal.Disk) (D.fault_count disk.old) (D.fault_count disk.new) }
+    ensures faults { Counts (IsErrOf result MetaRefusal.Disk) (D.fault_count disk.old) (D.fault_count disk.new) }
 {
     let geometry = catalog.geometry();
     let Ok(mut bodies) = empty(alloc, geometry_of(geometry).files) else {
-        return Err(StoreRefusal::Memory);
+        return Err(MetaRefusal::Memory);
     };
     for index in 0..catalog.names().len() {
         let (key, _name, size, parts) = catalog.file(index).unwrap();
@@ -79,7 +78,7 @@ fn load_body<D: Disk>(
     size: u64,
     places: &[Option<u32>],
     stubs: &StubMap,
-) -> Result<Body, StoreRefusal>
+) -> Result<Body, MetaRefusal>
     requires whole { D.length_of disk.old ≡ (layout_of geometry).whole }
     requires size { size ≤ FILE_BYTES }
     requires count { length places.now ≡ blocks_in size }
@@ -91,16 +90,16 @@ fn load_body<D: Disk>(
     ensures size { IfOk result (λ body. length body.bytes ≡ size) }
     ensures here { IfOk result (λ body. (j : ℕ) → is_away body j ≡ offline_at stubs.now j) }
     ensures loaded { IfOk result (λ body. (c : List ℕ) → D.gives disk.old c → body.bytes ≡ body_at (blocks_in_image geometry c) size places.now) }
-    ensures faults { Counts (IsErrOf result StoreRefusal.Disk) (D.fault_count disk.old) (D.fault_count disk.new) }
+    ensures faults { Counts (IsErrOf result MetaRefusal.Disk) (D.fault_count disk.old) (D.fault_count disk.new) }
 {
     let Ok(mut body) = zeros(alloc, size, stubs) else {
-        return Err(StoreRefusal::Memory);
+        return Err(MetaRefusal::Memory);
     };
     let mut start = 0;
     for place in places {
         if let Some(place) = *place {
             let Ok(()) = fill(alloc, disk, geometry, place, &mut body, start) else {
-                return Err(StoreRefusal::Disk);
+                return Err(MetaRefusal::Disk);
             };
         }
         start += BLOCK_BYTES;

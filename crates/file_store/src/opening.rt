@@ -13,12 +13,12 @@ ghost use Rattle.file_store.specs.HeldFiles.{IsHeldFiles};
 ghost use Rattle.file_store.specs.Stores.{marks_of};
 
 use crate::loading::load_bodies;
-use crate::refusal::StoreRefusal;
 use crate::spaces::space_of;
 use block_space::BlockSpace;
 use disk_model::{Disk, OpenRefusal};
 use file_body::Body;
 use meta_store::{Catalog, MetaStore};
+use snapshot_text::MetaRefusal;
 use std::alloc::Global;
 
 /// Reads the files of a store, their bodies, that of inode i at i - 1, and which blocks they leave free.
@@ -67,7 +67,7 @@ fn read_files<D: Disk>(
 {
     let bodies = match load_bodies(alloc, disk, catalog) {
         Ok(bodies) => bodies,
-        Err(StoreRefusal::Disk) => return Err(OpenRefusal::Disk),
+        Err(MetaRefusal::Disk) => return Err(OpenRefusal::Disk),
         Err(_) => return Err(OpenRefusal::Memory),
     };
     match space_of(alloc, catalog) {

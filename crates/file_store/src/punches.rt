@@ -14,7 +14,7 @@ ghost use Rattle.file_store.specs.Changes.{Changes};
 
 use crate::events::make_durable;
 use crate::loading::slot;
-use crate::refusal::StoreRefusal;
+use crate::refusals::is_disk;
 use crate::store::FileStore;
 use disk_model::Disk;
 use hsm_types::{DmRefusal, FileKey, LAST_NUMBER, SEGMENT_BLOCKS, Stub};
@@ -40,15 +40,15 @@ pub(crate) fn plan(
     key: FileKey,
     from: u32,
     to: u32,
-) -> Result<Punch, StoreRefusal>
+) -> Result<Punch, MetaRefusal>
     requires live { IsSome (find_key (λ f. f.key) key catalog.now.files) }
     requires order { from ≤ to }
     requires few { to ≤ file_segments }
     ensures judged { OnOk result (any_unpunched (kept_at key catalog.now).regions (kept_at key catalog.now).stubs from to ≡ None) }
     ensures records { IfOk result (λ p. p.records ≡ punch_records key.ino (kept_at key catalog.now).stubs (from_on from (to - from))) }
     ensures freed { IfOk result (λ p. (f : CatalogFile) → find_key (λ f. f.key) key catalog.now.files ≡ Some f → p.freed.items ≡ present (places_between from to f.places)) }
-    ensures refused { (why : DmRefusal) → IsErrOf result (StoreRefusal.Part why) → any_unpunched (kept_at key catalog.now).regions (kept_at key catalog.now).stubs from to ≡ Some why }
-    ensures no_disk { IsErrOf result StoreRefusal.Disk → ⊥ }
+    ensures refused { (why : DmRefusal) → IsErrOf result (MetaRefusal.Part why) → any_unpunched (kept_at key catalog.now).regions (kept_at key catalog.now).stubs from to ≡ Some why }
+    ensures no_disk { IsErrOf result MetaRefusal.Disk → ⊥ }
 {
     let parts = catalog.parts(key);
     let records = records_of(alloc, key.ino, parts.stubs(), parts.regions(), from, to)?;
@@ -64,18 +64,21 @@ fn records_of(
     regions: &ManagedRegions,
     from: u32,
     to: u32,
-) -> Result<Records, StoreRefusal>
+) -> Result<Records, MetaRefusal>
     requires { from ≤ to }
     ensures judged { OnOk result (any_unpunched regions.now stubs.now from to ≡ None) }
     ensures records { IfOk result (λ rs. rs ≡ punch_records ino stubs.now (from_on from (to - from))) }
-    ensures refused { (why : DmRefusal) → IsErrOf result (StoreRefusal.Part why) → any_unpunched regions.now stubs.now from to ≡ Some why }
-    ensures no_disk { IsErrOf result StoreRefusal.Disk → ⊥ }
+    ensures refused { (why : DmRefusal) → IsErrOf result (MetaRefusal.Part why) → any_unpunched regions.now stubs.now from to ≡ Some why }
+    ensures no_disk { IsErrOf result MetaRefusal.Disk → ⊥ }
 {
     let mut records = Vec::new(alloc);
     for segment in from..to {
-        let stub = Some(goes(stubs, regions, segment)?);
+        let stub = match goes(stubs, regions, segment) {
+            Ok(stub) => Some(stub),
+            Err(why) => return Err(MetaRefusal::Part(why)),
+        };
         let Ok(()) = records.push(Record::Stub { ino, segment, stub }) else {
-            return Err(StoreRefusal::Memory);
+            return Err(MetaRefusal::Memory);
         };
     }
     Ok(Records::from(records))
@@ -124,7 +127,7 @@ impl<D: Disk> FileStore<D> {
         to: u32,
         punch: Punch,
         number: u64,
-    ) -> Result<(), StoreRefusal>
+    ) -> Result<(), MetaRefusal>
         requires working { self.old.failed ≡ false }
         requires rises { self.old.meta.number ≤ number }
         requires live { IsSome (find_key (λ f. f.key) key self.old.held.files) }
@@ -139,7 +142,7 @@ impl<D: Disk> FileStore<D> {
         // Asked for what is true of the disk.
         let _failed = self.has_failed();
         if number > LAST_NUMBER {
-            return Err(StoreRefusal::Memory);
+            return Err(MetaRefusal::Memory);
         }
         let before = Snapshot::of(&self.bodies);
         let Punch { records, freed } = punch;
@@ -151,8 +154,8 @@ impl<D: Disk> FileStore<D> {
                 Ok(())
             }
             Err(refusal) => {
-                self.failed = refusal == MetaRefusal::Disk;
-                Err(StoreRefusal::from(refusal))
+                self.failed = is_disk(refusal);
+                Err(refusal)
             }
         }
     }

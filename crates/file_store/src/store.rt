@@ -27,7 +27,7 @@ ghost use Rattle.file_store.specs.Looks.{Looks};
 
 use crate::loading::slot;
 use crate::opening::read_in;
-use crate::refusal::StoreRefusal;
+use crate::refusals::is_disk;
 use block_space::BlockSpace;
 use disk_model::{Disk, OpenRefusal};
 use file_body::Body;
@@ -95,7 +95,7 @@ impl<D: Disk> FileStore<D> {
     }
 
     /// Makes all durable that is held, under that number. Past the greatest number that a snapshot can hold it answers `Memory`.
-    pub fn sync(&mut self, alloc: Global, number: u64) -> Result<(), StoreRefusal>
+    pub fn sync(&mut self, alloc: Global, number: u64) -> Result<(), MetaRefusal>
         requires working { self.old.failed ≡ false }
         requires rises { self.old.meta.number ≤ number }
         ensures held { self.new.held ≡ self.old.held }
@@ -104,12 +104,12 @@ impl<D: Disk> FileStore<D> {
         ensures durable { OnOk result ((c : List ℕ) → MayBe D.Disk self.new.disk c → IsDurable self.new c) }
         ensures ends { Ends D.Disk self.old number None result self.new }
         ensures room { OnOk result (length (free self.new.space) + used self.new.held.files ≡ (geometry_of self.new.meta.durable.geometry).blocks) }
-        ensures memory { IsErrOf result StoreRefusal.Memory → self.new ≡ self.old }
+        ensures memory { IsErrOf result MetaRefusal.Memory → self.new ≡ self.old }
     {
         // Asked for what is true of the disk.
         let _failed = self.has_failed();
         if number > LAST_NUMBER {
-            return Err(StoreRefusal::Memory);
+            return Err(MetaRefusal::Memory);
         }
         match self.meta.commit(alloc, &mut self.disk, number) {
             Ok(()) => {
@@ -118,8 +118,8 @@ impl<D: Disk> FileStore<D> {
                 Ok(())
             }
             Err(refusal) => {
-                self.failed = refusal == MetaRefusal::Disk;
-                Err(StoreRefusal::from(refusal))
+                self.failed = is_disk(refusal);
+                Err(refusal)
             }
         }
     }
@@ -153,7 +153,7 @@ impl<D: Disk> FileStore<D> {
         key: FileKey,
         offset: u64,
         len: u64,
-    ) -> Result<Bytes, StoreRefusal>
+    ) -> Result<Bytes, MetaRefusal>
         requires working { self.old.failed ≡ false }
         requires live { IsSome (find_key (λ f. f.key) key self.old.held.files) }
         ensures bytes { IfOk result (λ bytes. IsOfSeen (Tells D.Disk self.new.disk) self.old.held (λ seen. bytes ≡ read_at offset len (bytes_of key seen.files))) }
@@ -166,11 +166,7 @@ impl<D: Disk> FileStore<D> {
 
     /// The fingerprint of the bytes of a segment of a live file that isn't offline, as they are seen. They are read once, where they are.
     #[tactic(auto, using(crate::proofs::ShownFiles::segment_short))]
-    pub fn digest_segment(
-        &mut self,
-        key: FileKey,
-        segment: u32,
-    ) -> Result<Fingerprint, StoreRefusal>
+    pub fn digest_segment(&mut self, key: FileKey, segment: u32) -> Result<Fingerprint, MetaRefusal>
         requires working { self.old.failed ≡ false }
         requires live { IsSome (find_key (λ f. f.key) key self.old.held.files) }
         requires start { segment_bytes * segment < length (bytes_of key self.old.held.files) }

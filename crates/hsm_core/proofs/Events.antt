@@ -22,8 +22,8 @@ use Rattle.plain_model.specs.Exact.{answer_to, left_answered, left_by, IsOwnSeen
 use Rattle.plain_model.specs.Seen.{IsSeen, IsOfSeen}
 use Rattle.plain_model.specs.Synced.{is_sync}
 use Rattle.plain_model.proofs.Faultless.{own_faultless}
-use Rattle.file_store.specs.declared.refusal.StoreRefusal.{StoreRefusal}
-use Rattle.file_store.specs.declared.refusal.StoreRefusal.TheVariants.{Part, Memory as NoMemory, Disk as Failed}
+use Rattle.snapshot_text.specs.declared.refusal.MetaRefusal.{MetaRefusal}
+use Rattle.snapshot_text.specs.declared.refusal.MetaRefusal.TheVariants.{Part, Memory as NoMemory, Disk as Failed}
 use Rattle.file_store.specs.Stores.{superblock_of, Proceeds}
 use Rattle.hsm_core.specs.Store.{Store, last_number, state_with, state_of, HasRun}
 use Rattle.hsm_core.specs.Crashes.{IsSafe, IsSynced}
@@ -112,7 +112,7 @@ module _ {D : Type 0} (g : disk.Ghosts D) (s t : Store D) (has : HasRun g s) (sa
 
 -- What became of the parts in an event, over that superblock and that number, by its two replies, or by why it wasn't done. The store's own reply over
 -- files that are seen is `own`, and `say` makes an answer of a reply.
-pub record Becomes {D R : Type 0} (g : disk.Ghosts D) (super : Superblock) (n : ℕ) (s t : Store D) (actor : Actor) (action : Action) (say : R → Answer) (own : Held → R) (done : Result (R × R) StoreRefusal) : Type 0 where
+pub record Becomes {D R : Type 0} (g : disk.Ghosts D) (super : Superblock) (n : ℕ) (s t : Store D) (actor : Actor) (action : Action) (say : R → Answer) (own : Held → R) (done : Result (R × R) MetaRefusal) : Type 0 where
   pub exact : (seen : Held) → say (own seen) ≡ answer_to super (state_with seen s.stamps s.tables n) actor action
   pub replies : IfOk done (λ r. IsOfSeen (Tells g t.files.disk) s.files.held (λ seen. AreBoth (own seen) r))
   pub leaves : IfOk done (λ r. state_with t.files.held t.stamps t.tables (n + 1) ≡ left_answered super (state_with s.files.held s.stamps s.tables n) actor action (say r.1))
@@ -122,13 +122,13 @@ pub record Becomes {D R : Type 0} (g : disk.Ghosts D) (super : Superblock) (n : 
   pub ends : Ends g s.files n None done t.files
 
 -- What is kept of it, and told.
-pub record Keeps {R : Type 0} (old : List Entry) (actor : Actor) (action : Action) (say : R → Answer) (done : Result (R × R) StoreRefusal) (reply : R) (new : List Entry) : Type 0 where
+pub record Keeps {R : Type 0} (old : List Entry) (actor : Actor) (action : Action) (say : R → Answer) (done : Result (R × R) MetaRefusal) (reply : R) (new : List Entry) : Type 0 where
   pub kept : IfOk done (λ r. (reply ≡ r.0) × (new ≡ old ++ entry_of actor action (say r.1) ∷ []))
   pub memory : IsErrOf done NoMemory → (say reply ≡ memory_of action) × (new ≡ old)
   pub failed : IsErrOf done Failed → (say reply ≡ fault_of action) × (new ≡ old ++ entry_of actor action (fault_of action) ∷ [])
 
 -- so there is at most one entry more
-pub one_more : {R : Type 0} (old new : List Entry) (actor : Actor) (action : Action) (say : R → Answer) (d : Result (R × R) StoreRefusal) (reply : R) → ((why : DmRefusal) → IsErrOf d (Part why) → None ≡ Some why) → Keeps old actor action say d reply new → length new ≤ length old + 1
+pub one_more : {R : Type 0} (old new : List Entry) (actor : Actor) (action : Action) (say : R → Answer) (d : Result (R × R) MetaRefusal) (reply : R) → ((why : DmRefusal) → IsErrOf d (Part why) → None ≡ Some why) → Keeps old actor action say d reply new → length new ≤ length old + 1
 one_more old new actor action say (Ok r) reply whole keeps = rw keeps.kept.1 (omega (arith, length-append old (entry_of actor action (say r.1) ∷ [])))
 one_more old new actor action say (Err NoMemory) reply whole keeps = rw (keeps.memory refl).1 (omega arith)
 one_more old new actor action say (Err Failed) reply whole keeps = rw (keeps.failed refl).1 (omega (arith, length-append old (entry_of actor action (fault_of action) ∷ [])))
@@ -145,7 +145,7 @@ always (Ok x) p = (p, tt)
 always (Err e) p = (tt, p)
 
 module _ {D R : Type 0} (g : disk.Ghosts D) (s t : Store D) (has : HasRun g s) (safe : IsSafe g s) (working : s.files.failed ≡ false) (opened : t.opened ≡ s.opened) (actor : Actor) (action : Action) (acts : Acts actor action) (say : R → Answer) (own : Held → R) (reply : R) where
-  ended : (d : Result (R × R) StoreRefusal) → Becomes g (superblock_of s.opened) (last_number s) s t actor action say own d → Keeps s.history actor action say d reply t.history → IsNext g s actor action (say reply) t
+  ended : (d : Result (R × R) MetaRefusal) → Becomes g (superblock_of s.opened) (last_number s) s t actor action say own d → Keeps s.history actor action say d reply t.history → IsNext g s actor action (say reply) t
   ended (Ok r) became keeps =
       let seen = became.replies.0 in
       let both = became.replies.2 in
@@ -164,7 +164,7 @@ module _ {D R : Type 0} (g : disk.Ghosts D) (s t : Store D) (has : HasRun g s) (
 -- ---- an event of a store that was made ready for it
 
 -- an event that was refused before it began. The answer says why
-pub record IsRefused (action : Action) (why : StoreRefusal) (answer : Answer) : Type 0 where
+pub record IsRefused (action : Action) (why : MetaRefusal) (answer : Answer) : Type 0 where
   pub memory : why ≡ NoMemory → answer ≡ memory_of action
   pub failed : why ≡ Failed → answer ≡ fault_of action
 
@@ -175,7 +175,7 @@ module _ {D : Type 0} (g : disk.Ghosts D) (s : Store D) (has : HasRun g s) (safe
   same : ready ≡ s
   same i = record s { stamps = stamped i; history = noted i }
 
-  pub event : {R : Type 0} (t : Store D) → s.files.failed ≡ false → t.opened ≡ s.opened → (actor : Actor) (action : Action) → Acts actor action → (say : R → Answer) (own : Held → R) (reply : R) (n : ℕ) → n ≡ last_number ready → (d : Result (R × R) StoreRefusal)
+  pub event : {R : Type 0} (t : Store D) → s.files.failed ≡ false → t.opened ≡ s.opened → (actor : Actor) (action : Action) → Acts actor action → (say : R → Answer) (own : Held → R) (reply : R) (n : ℕ) → n ≡ last_number ready → (d : Result (R × R) MetaRefusal)
       → Becomes g (superblock_of s.files) n ready t actor action say own d → Keeps history actor action say d reply t.history → IsNext g s actor action (say reply) t
   event t working opened actor action acts say own reply n number d became keeps =
       let run : HasRun g ready = subst (λ (x : Store D). HasRun g x) (sym same) has in
@@ -192,7 +192,7 @@ module _ {D : Type 0} (g : disk.Ghosts D) (s : Store D) (has : HasRun g s) (safe
   unchanged : untouched ≡ record s { spare = spare }
   unchanged i = record s { stamps = stamped i; history = noted i; spare = spare }
 
-  pub not_begun : (actor : Actor) (action : Action) (answer : Answer) (why : StoreRefusal) → (s.files.failed ≡ false → (n : ℕ) → Proceeds g s.files n s.files) → IsRefused action why answer
+  pub not_begun : (actor : Actor) (action : Action) (answer : Answer) (why : MetaRefusal) → (s.files.failed ≡ false → (n : ℕ) → Proceeds g s.files n s.files) → IsRefused action why answer
       → (why ≡ Failed) × (s.files.failed ≡ true) ⊎ (why ≡ NoMemory) × (s.files.failed ≡ false) → IsAnswer g s actor action answer untouched
   not_begun actor action answer why idle told (inl closed) = inl (record { failed = closed.1; answer = told.failed closed.0; same = unchanged })
   not_begun actor action answer why idle told (inr lacks) =
@@ -200,7 +200,7 @@ module _ {D : Type 0} (g : disk.Ghosts D) (s : Store D) (has : HasRun g s) (safe
       (lacking g s (record s { spare = spare }) has safe lacks.1 refl (idle lacks.1 (last_number s)) actor action answer (told.memory lacks.0) refl refl refl refl lacks.1 refl).2
 
 -- calls that wait are such as before
-pub lasting : {R : Type 0} (super opened : Superblock) → super ≡ opened → (h h' : Held) (stamps stamps' : List (FileKey × ℕ)) (n : ℕ) (t u : Tables) (actor : Actor) (action : Action) (say : R → Answer) (d : Result (R × R) StoreRefusal)
+pub lasting : {R : Type 0} (super opened : Superblock) → super ≡ opened → (h h' : Held) (stamps stamps' : List (FileKey × ℕ)) (n : ℕ) (t u : Tables) (actor : Actor) (action : Action) (say : R → Answer) (d : Result (R × R) MetaRefusal)
     → IfOk d (λ r. state_with h' stamps' u (n + 1) ≡ left_answered super (state_with h stamps t n) actor action (say r.1)) → OnErr d (u ≡ t) → EachLasts opened.geometry.limits (ledger_of t) → EachLasts opened.geometry.limits (ledger_of u)
 lasting super opened formatted h h' stamps stamps' n t u actor action say (Ok r) left _ is =
     let before = subst (λ (s : Superblock). EachLasts s.geometry.limits (ledger_of t)) (sym formatted) is in

@@ -4,16 +4,16 @@ use Rattle.std.specs.Prelude.{Result, Ok, Err}
 use Rattle.std.specs.Result.{IsErrOf, IsErrAnd}
 use Rattle.std.proofs.lemmas.Result.{err_from_is_err_and}
 use Rattle.disk_model.specs.declared.device.Disk as disk
-use Rattle.file_store.specs.declared.refusal.StoreRefusal.{StoreRefusal}
-use Rattle.file_store.specs.declared.refusal.StoreRefusal.TheVariants.{Memory}
+use Rattle.snapshot_text.specs.declared.refusal.MetaRefusal.{MetaRefusal}
+use Rattle.snapshot_text.specs.declared.refusal.MetaRefusal.TheVariants.{Memory}
 use Rattle.file_store.specs.Changes.{Ends}
 use Rattle.file_store.specs.Looks.{Looks}
 use Rattle.file_store.specs.Stores.{Store as FileStore}
 use Rattle.file_store.proofs.Ended.{ends_done}
 
 -- the same error, whatever was to be given
-same_error : (S T : Type 0) (x y : StoreRefusal) → IsErrOf {T = T} (Err x) y → IsErrOf {T = S} (Err x) y
-same_error S T x y is = ap (λ (z : StoreRefusal). Err z) cc
+same_error : (S T : Type 0) (x y : MetaRefusal) → IsErrOf {T = T} (Err x) y → IsErrOf {T = S} (Err x) y
+same_error S T x y is = ap (λ (z : MetaRefusal). Err z) cc
 
 module _ {D S T : Type 0} (g : disk.Ghosts D) (old new : FileStore D) where
   pub looked : (x : S) (y : T) → Looks g old (Ok x) new → (n : ℕ) → Ends g old n None (Ok y) new
@@ -36,7 +36,7 @@ module _ {D S T : Type 0} (g : disk.Ghosts D) (old new : FileStore D) where
       }
 
   -- the look itself has failed
-  failed : (why : StoreRefusal) → Looks {T = S} g old (Err why) new → (n : ℕ) → Ends {T = T} g old n None (Err why) new
+  failed : (why : MetaRefusal) → Looks {T = S} g old (Err why) new → (n : ℕ) → Ends {T = T} g old n None (Err why) new
   failed why looks n =
       let is = looks.ends n in
       record {
@@ -53,12 +53,12 @@ module _ {D S T : Type 0} (g : disk.Ghosts D) (old new : FileStore D) where
       }
 
   -- by the result that says so
-  pub look_lacked : (x : S) (r : Result T StoreRefusal) → Looks g old (Ok x) new → IsErrAnd r (λ why. why ≡ Memory) → (n : ℕ) → Ends g old n None r new
+  pub look_lacked : (x : S) (r : Result T MetaRefusal) → Looks g old (Ok x) new → IsErrAnd r (λ why. why ≡ Memory) → (n : ℕ) → Ends g old n None r new
   look_lacked x r looks is n =
       let p = err_from_is_err_and r is in
-      subst (λ (y : Result T StoreRefusal). Ends g old n None y new) (sym (p.1 ∙ ap (λ (e : StoreRefusal). Err e) p.2)) (lacked x looks n)
+      subst (λ (y : Result T MetaRefusal). Ends g old n None y new) (sym (p.1 ∙ ap (λ (e : MetaRefusal). Err e) p.2)) (lacked x looks n)
 
-  pub look_failed : (why : StoreRefusal) (r : Result T StoreRefusal) → Looks {T = S} g old (Err why) new → IsErrAnd r (λ e. e ≡ why) → (n : ℕ) → Ends g old n None r new
+  pub look_failed : (why : MetaRefusal) (r : Result T MetaRefusal) → Looks {T = S} g old (Err why) new → IsErrAnd r (λ e. e ≡ why) → (n : ℕ) → Ends g old n None r new
   look_failed why r looks is n =
       let p = err_from_is_err_and r is in
-      subst (λ (y : Result T StoreRefusal). Ends g old n None y new) (sym (p.1 ∙ ap (λ (e : StoreRefusal). Err e) p.2)) (failed why looks n)
+      subst (λ (y : Result T MetaRefusal). Ends g old n None y new) (sym (p.1 ∙ ap (λ (e : MetaRefusal). Err e) p.2)) (failed why looks n)

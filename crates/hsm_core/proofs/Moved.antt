@@ -29,8 +29,8 @@ use Rattle.snapshot_text.proofs.StubLists.{each-at}
 use Rattle.stub_map.specs.States.{state_of}
 use Rattle.stub_map.specs.declared.stubs.State.TheVariants.{Sealed, Offline as Away}
 use Rattle.dm_service.specs.Services.{AreBoth}
-use Rattle.file_store.specs.declared.refusal.StoreRefusal.{StoreRefusal}
-use Rattle.file_store.specs.declared.refusal.StoreRefusal.TheVariants.{Part, Disk, Memory}
+use Rattle.snapshot_text.specs.declared.refusal.MetaRefusal.{MetaRefusal}
+use Rattle.snapshot_text.specs.declared.refusal.MetaRefusal.TheVariants.{Part, Disk, Memory}
 use Rattle.file_store.specs.Changes.{Changes}
 use Rattle.file_store.specs.Stores.{Store as FileStore, superblock_of, IsLawful, IsStubbed, Proceeds}
 use Rattle.file_store.proofs.Ended.{ends_done, ends_err}
@@ -88,7 +88,7 @@ restored_len (Some x) entry bytes n is len print = by x.offline is
 -- ---- the answer to a change of a file
 
 -- it is the answer of the service over what is seen of the files
-pub served : {D : Type 0} (g : disk.Ghosts D) (old new : FileStore D) (n : ℕ) (call : DmCall) (k : FileKey) (effect : Effect) (own : Option DmRefusal) (ended : Result Unit StoreRefusal) (seen : Held) → IsSeen (Tells g new.disk) old.held seen → Changes g old n k effect own ended new
+pub served : {D : Type 0} (g : disk.Ghosts D) (old new : FileStore D) (n : ℕ) (call : DmCall) (k : FileKey) (effect : Effect) (own : Option DmRefusal) (ended : Result Unit MetaRefusal) (seen : Held) → IsSeen (Tells g new.disk) old.held seen → Changes g old n k effect own ended new
     → own ≡ (service_over (superblock_of old) seen call).refusal → change_of anybody call ≡ OfFile k effect → (service_over (superblock_of old) seen call).reply ≡ reply.Done → old.failed ≡ false → IsServed g old n call (replies_to ended) new
 served g old new n call k effect own (Ok x) seen is_seen is own_is changes is_done works =
     let none = sym own_is ∙ is.ends.judged in
@@ -109,7 +109,7 @@ served g old new n call k effect own (Err Memory) seen is_seen is own_is changes
 served g old new n call k effect own (Err Disk) seen is_seen is own_is changes is_done works = record { serves = tt; ends = ends_err g old new n own (Err Disk) Disk refl (λ part e. cc) is.ends }
 
 -- the change is done, or its part refuses as the service does, or it fails
-pub change_served : {D : Type 0} {g : disk.Ghosts D} {old new : FileStore D} {n : ℕ} {call : DmCall} {k : FileKey} {effect : Effect} {own : Option DmRefusal} {ended : Result Unit StoreRefusal} {result : Result (DmReply × DmReply) StoreRefusal} → Changes g old n k effect own ended new
+pub change_served : {D : Type 0} {g : disk.Ghosts D} {old new : FileStore D} {n : ℕ} {call : DmCall} {k : FileKey} {effect : Effect} {own : Option DmRefusal} {ended : Result Unit MetaRefusal} {result : Result (DmReply × DmReply) MetaRefusal} → Changes g old n k effect own ended new
     → own ≡ (service_on old call).refusal → change_of anybody call ≡ OfFile k effect → (service_on old call).reply ≡ reply.Done → old.failed ≡ false → result ≡ replies_to ended → IsServed g old n call result new
 change_served {D} {g} {old} {new} {n} {call} is own changes is_done works told = subst (λ r. IsServed g old n call r new) (sym told) (served g old new n call _ _ _ _ old.held (held_seen old.held) is own changes is_done works)
 

@@ -32,8 +32,8 @@ use Rattle.dm_service.specs.Parking.{blocked, parked_on, with_access}
 use Rattle.dm_service.specs.Services.{AreBoth}
 use Rattle.dm_service.specs.Tables.{Tables, waiting, seen, ledger_of, pending_as, flags_in, flags_or_none, state_in}
 use Rattle.dm_service.proofs.Anywhere.{still_idle}
-use Rattle.file_store.specs.declared.refusal.StoreRefusal.{StoreRefusal}
-use Rattle.file_store.specs.declared.refusal.StoreRefusal.TheVariants.{Memory as NoMemory}
+use Rattle.snapshot_text.specs.declared.refusal.MetaRefusal.{MetaRefusal}
+use Rattle.snapshot_text.specs.declared.refusal.MetaRefusal.TheVariants.{Memory as NoMemory}
 use Rattle.file_store.specs.Stores.{Store as FileStore, superblock_of, Proceeds}
 use Rattle.file_store.specs.Changes.{Ends}
 use Rattle.hsm_core.specs.Outcomes.{ends, ended_reply, held_said, stamps_said, is_fresh, IsFinished, IsReplied}
@@ -59,7 +59,7 @@ every (Ok x) p = p
 every (Err e) p = tt
 
 -- an event that nothing was done to the files for, and that may have lacked memory
-pub same_ends : {D T : Type 0} (g : disk.Ghosts D) (f : FileStore D) (n : ℕ) (r : Result T StoreRefusal) → f.failed ≡ false → Proceeds g f n f → IfErr r (λ why. why ≡ NoMemory) → Ends g f n None r f
+pub same_ends : {D T : Type 0} (g : disk.Ghosts D) (f : FileStore D) (n : ℕ) (r : Result T MetaRefusal) → f.failed ≡ false → Proceeds g f n f → IfErr r (λ why. why ≡ NoMemory) → Ends g f n None r f
 same_ends g f n (Ok x) working idle memory = ends_done g f f n None idle x refl working refl
 same_ends g f n (Err e) working idle memory = let lacks : e ≡ NoMemory = memory in rw lacks (unbegun g f n None NoMemory working idle (λ is. cc) (λ part is. absurd cc))
 
@@ -211,7 +211,7 @@ module _ {D : Type 0} (g : disk.Ghosts D) (f : FileStore D) (n : ℕ) (stamps : 
   heard k = verdict_of (judgement (flags_in a) a.answer facts t.rights t.sessions k a.call)
 
   -- an event of which its reply and what it leaves are known, and that did nothing to the files
-  waits_so : (action : Action) (k : FileKey) (kind : Kind) (u : Tables) (r : Result (Reply × Reply) StoreRefusal) → heard k ≡ Post kind → facts ≡ facts_of super f.held k a.call
+  waits_so : (action : Action) (k : FileKey) (kind : Kind) (u : Tables) (r : Result (Reply × Reply) MetaRefusal) → heard k ≡ Post kind → facts ≡ facts_of super f.held k a.call
       → reply_said now k a.call (heard k) ≡ reply_to super now c action → left_said super now c (flags_in a) k a.call (heard k) ≡ state_after super now c action
       → IfOk r (λ x. AreBoth (Parked (next_token (ledger_of t))) x) → OnOk r (seen u ≡ parked_on c (record a { key = k }) kind (record { fsid = f.meta.fsid; key = k }) (told_span a.call facts.short kind) (seen t))
       → OnErr r (u ≡ t) → IfErr r (λ why. why ≡ NoMemory) → IsReplied g f n stamps t c action r f stamps u
@@ -227,7 +227,7 @@ module _ {D : Type 0} (g : disk.Ghosts D) (f : FileStore D) (n : ℕ) (stamps : 
   }
 
   -- one that a token blocks
-  blocks_so : (action : Action) (k : FileKey) (other : Token) (u : Tables) (r : Result (Reply × Reply) StoreRefusal) → heard k ≡ Block other
+  blocks_so : (action : Action) (k : FileKey) (other : Token) (u : Tables) (r : Result (Reply × Reply) MetaRefusal) → heard k ≡ Block other
       → reply_said now k a.call (heard k) ≡ reply_to super now c action → left_said super now c (flags_in a) k a.call (heard k) ≡ state_after super now c action
       → IfOk r (λ x. AreBoth (Blocked other) x) → OnOk r (seen u ≡ with_access c (Some (blocked (record a { key = k }))) (seen t))
       → OnErr r (u ≡ t) → IfErr r (λ why. why ≡ NoMemory) → IsReplied g f n stamps t c action r f stamps u
@@ -243,7 +243,7 @@ module _ {D : Type 0} (g : disk.Ghosts D) (f : FileStore D) (n : ℕ) (stamps : 
   }
 
   -- one that has ended
-  ends_so : (action : Action) (k : FileKey) (u : Tables) (r : Result (Reply × Reply) StoreRefusal) (new : FileStore D) (after : List (FileKey × ℕ)) → ends (heard k) ≡ true
+  ends_so : (action : Action) (k : FileKey) (u : Tables) (r : Result (Reply × Reply) MetaRefusal) (new : FileStore D) (after : List (FileKey × ℕ)) → ends (heard k) ≡ true
       → ((seen : Held) → blanked seen ≡ blanked f.held → reply_said (over seen) k a.call (heard k) ≡ reply_to super (over seen) c action) → left_said super now c (flags_in a) k a.call (heard k) ≡ state_after super now c action
       → IsFinished g f n stamps k a.call (heard k) r new after → OnOk r (seen u ≡ with_access c None (seen t)) → OnErr r (u ≡ t) → IsReplied g f n stamps t c action r new after u
   ends_so action k u r new after ended reply left finished gone err = record {
@@ -272,20 +272,20 @@ module _ {D : Type 0} (g : disk.Ghosts D) (f : FileStore D) (n : ℕ) (stamps : 
     own_left : left_said super now c (flags_in a) file.key a.call (heard file.key) ≡ state_after super now c (Issue a.call)
     own_left = issue_left super f.held (stamp_in stamps) n t c a file.key fresh none lawful (key_of_meant f.held.files a.call (Some file) meant) facts known live
 
-    pub issue_waits : (kind : Kind) (u : Tables) (r : Result (Reply × Reply) StoreRefusal) → heard file.key ≡ Post kind → IfOk r (λ x. AreBoth (Parked (next_token (ledger_of t))) x)
+    pub issue_waits : (kind : Kind) (u : Tables) (r : Result (Reply × Reply) MetaRefusal) → heard file.key ≡ Post kind → IfOk r (λ x. AreBoth (Parked (next_token (ledger_of t))) x)
         → OnOk r (seen u ≡ parked_on c (record a { key = file.key }) kind (record { fsid = f.meta.fsid; key = file.key }) (told_span a.call facts.short kind) (seen t)) → OnErr r (u ≡ t) → IfErr r (λ why. why ≡ NoMemory)
         → IsReplied g f n stamps t c (Issue a.call) r f stamps u
     issue_waits kind u r says replies after err memory = waits_so (Issue a.call) file.key kind u r says known (own_reply f.held refl) own_left replies after err memory
 
-    pub issue_blocks : (other : Token) (u : Tables) (r : Result (Reply × Reply) StoreRefusal) → heard file.key ≡ Block other → IfOk r (λ x. AreBoth (Blocked other) x)
+    pub issue_blocks : (other : Token) (u : Tables) (r : Result (Reply × Reply) MetaRefusal) → heard file.key ≡ Block other → IfOk r (λ x. AreBoth (Blocked other) x)
         → OnOk r (seen u ≡ with_access c (Some (blocked (record a { key = file.key }))) (seen t)) → OnErr r (u ≡ t) → IfErr r (λ why. why ≡ NoMemory) → IsReplied g f n stamps t c (Issue a.call) r f stamps u
     issue_blocks other u r says replies after err memory = blocks_so (Issue a.call) file.key other u r says (own_reply f.held refl) own_left replies after err memory
 
-    pub issue_ends : (r : Result (Reply × Reply) StoreRefusal) (new : FileStore D) (after : List (FileKey × ℕ)) → ends (heard file.key) ≡ true → IsFinished g f n stamps file.key a.call (heard file.key) r new after
+    pub issue_ends : (r : Result (Reply × Reply) MetaRefusal) (new : FileStore D) (after : List (FileKey × ℕ)) → ends (heard file.key) ≡ true → IsFinished g f n stamps file.key a.call (heard file.key) r new after
         → IsReplied g f n stamps t c (Issue a.call) r new after t
     issue_ends r new after over finished = ends_so (Issue a.call) file.key t r new after over own_reply own_left finished (ok_still r) (always r refl)
       where
-        ok_still : (r : Result (Reply × Reply) StoreRefusal) → OnOk r (seen t ≡ with_access c None (seen t))
+        ok_still : (r : Result (Reply × Reply) MetaRefusal) → OnOk r (seen t ≡ with_access c None (seen t))
         ok_still (Ok x) = sym (still_idle t c none)
         ok_still (Err e) = tt
 
@@ -328,7 +328,7 @@ module _ {D : Type 0} (g : disk.Ghosts D) (f : FileStore D) (n : ℕ) (stamps : 
     again_leaves : left_said super now c (flags_in a) a.key a.call (heard a.key) ≡ state_after super now c Resume
     again_leaves = again_left super f.held (stamp_in stamps) n t c a waits goes facts lives facts_known
 
-    pub again_waits : (kind : Kind) (u : Tables) (r : Result (Reply × Reply) StoreRefusal) → heard a.key ≡ Post kind → IfOk r (λ x. AreBoth (Parked (next_token (ledger_of t))) x)
+    pub again_waits : (kind : Kind) (u : Tables) (r : Result (Reply × Reply) MetaRefusal) → heard a.key ≡ Post kind → IfOk r (λ x. AreBoth (Parked (next_token (ledger_of t))) x)
         → OnOk r (seen u ≡ parked_on c a kind (record { fsid = f.meta.fsid; key = a.key }) (told_span a.call facts.short kind) (seen t)) → OnErr r (u ≡ t) → IfErr r (λ why. why ≡ NoMemory)
         → IsReplied g f n stamps t c Resume r f stamps u
     again_waits kind u r says replies after err memory =
@@ -339,7 +339,7 @@ module _ {D : Type 0} (g : disk.Ghosts D) (f : FileStore D) (n : ℕ) (stamps : 
     again_blocks other u reply says replies after = blocks_so Resume a.key other u (Ok reply) says (again_own f.held refl) again_leaves replies after tt tt
 
     -- by the key of the file that was found, if one was
-    finished_on : (k : FileKey) (r : Result (Reply × Reply) StoreRefusal) (new : FileStore D) (after : List (FileKey × ℕ)) → (heard a.key ≡ Complete → k ≡ a.key) → IsFinished g f n stamps k a.call (heard a.key) r new after
+    finished_on : (k : FileKey) (r : Result (Reply × Reply) MetaRefusal) (new : FileStore D) (after : List (FileKey × ℕ)) → (heard a.key ≡ Complete → k ≡ a.key) → IsFinished g f n stamps k a.call (heard a.key) r new after
         → IsFinished g f n stamps a.key a.call (heard a.key) r new after
     finished_on k r new after same is = by_verdict (heard a.key) same is
       where
@@ -375,7 +375,7 @@ module _ {D : Type 0} (g : disk.Ghosts D) (f : FileStore D) (n : ℕ) (stamps : 
           }
         ] found known
 
-    pub again_ends : (u : Tables) (r : Result (Reply × Reply) StoreRefusal) (new : FileStore D) (after : List (FileKey × ℕ)) → ends (heard a.key) ≡ true → IsFinished g f n stamps (key_in target) a.call (heard a.key) r new after
+    pub again_ends : (u : Tables) (r : Result (Reply × Reply) MetaRefusal) (new : FileStore D) (after : List (FileKey × ℕ)) → ends (heard a.key) ≡ true → IsFinished g f n stamps (key_in target) a.call (heard a.key) r new after
         → OnOk r (seen u ≡ with_access c None (seen t)) → OnErr r (u ≡ t) → IsReplied g f n stamps t c Resume r new after u
     again_ends u r new after over finished gone err = ends_so Resume a.key u r new after over again_own again_leaves (finished_on (key_in target) r new after found_key finished) gone err
 
@@ -427,7 +427,7 @@ module _ {D : Type 0} (g : disk.Ghosts D) (f : FileStore D) (n : ℕ) (stamps : 
       (λ i. state_in (done_held f.held key call) (unstamped_by call key meant i) (n + 1) t)
       ∙ fresh_ended (superblock_of f) f.held (stamp_in stamps) n t c no_flags key call Complete refl idle
 
-  pub alone_replied : (r : Result (Reply × Reply) StoreRefusal) (new : FileStore D) → IfOk r (λ x. AreBoth (done_reply f.held (key_in None) call) x) → OnOk r (new.held ≡ done_held f.held (key_in None) call) → Ends g f n None r new
+  pub alone_replied : (r : Result (Reply × Reply) MetaRefusal) (new : FileStore D) → IfOk r (λ x. AreBoth (done_reply f.held (key_in None) call) x) → OnOk r (new.held ≡ done_held f.held (key_in None) call) → Ends g f n None r new
       → IsReplied g f n stamps t c (Issue call) r new stamps t
   alone_replied r new replies held over = record {
     replies = held_replies _ r f.held (λ h. reply_to (superblock_of f) (state_in h (stamp_in stamps) n t) c (Issue call)) (done_reply f.held (key_in None) call) (same_reply call key meant ∙ alone_reply) replies;

@@ -16,7 +16,7 @@ use Rattle.plain_model.specs.State.{Held, State, just_opened}
 use Rattle.plain_model.proofs.Faultless.{has_fault-cons, not_last}
 use Rattle.plain_model.proofs.Seeing.{left_own_by}
 use Rattle.dm_service.specs.Services.{AreBoth}
-use Rattle.file_store.specs.declared.refusal.StoreRefusal.{StoreRefusal}
+use Rattle.snapshot_text.specs.declared.refusal.MetaRefusal.{MetaRefusal}
 use Rattle.file_store.specs.Stores.{superblock_of}
 use Rattle.hsm_core.specs.Answers.{own_answer, own_state, IsDone}
 use Rattle.hsm_core.specs.Kept.{IsKept}
@@ -31,12 +31,12 @@ pub weaker_seen : {A B : Type 0} → (B → A) → (h seen : Held) → IsSeen A 
 weaker_seen to h seen is = record { alike = is.alike; told = λ tells. is.told (to tells) }
 
 -- replies over the files that are held
-pub held_replies : {R : Type 0} (Told : Type 0) (r : Result (R × R) StoreRefusal) (h : Held) (own : Held → R) (x : R) → x ≡ own h → IfOk r (λ z. AreBoth x z) → IfOk r (λ z. IsOfSeen Told h (λ seen. AreBoth (own seen) z))
+pub held_replies : {R : Type 0} (Told : Type 0) (r : Result (R × R) MetaRefusal) (h : Held) (own : Held → R) (x : R) → x ≡ own h → IfOk r (λ z. AreBoth x z) → IfOk r (λ z. IsOfSeen Told h (λ seen. AreBoth (own seen) z))
 held_replies Told (Ok z) h own x same is = (h, held_seen h, (is.0 ∙ same, is.1 ∙ same))
 held_replies Told (Err e) h own x same is = tt
 
 -- and over files that are seen
-pub seen_replies : {R : Type 0} (Told : Type 0) (r : Result (R × R) StoreRefusal) (h : Held) (x own : Held → R) → ((seen : Held) → blanked seen ≡ blanked h → x seen ≡ own seen) → IfOk r (λ z. IsOfSeen Told h (λ seen. AreBoth (x seen) z))
+pub seen_replies : {R : Type 0} (Told : Type 0) (r : Result (R × R) MetaRefusal) (h : Held) (x own : Held → R) → ((seen : Held) → blanked seen ≡ blanked h → x seen ≡ own seen) → IfOk r (λ z. IsOfSeen Told h (λ seen. AreBoth (x seen) z))
     → IfOk r (λ z. IsOfSeen Told h (λ seen. AreBoth (own seen) z))
 seen_replies Told (Ok z) h x own same is = let as_own = same is.0 is.1.alike in (is.0, is.1, (is.2.0 ∙ as_own, is.2.1 ∙ as_own))
 seen_replies Told (Err e) h x own same is = tt

@@ -27,8 +27,8 @@ use Rattle.plain_model.specs.State.{Held, file_at, bytes_of}
 use Rattle.snapshot_text.specs.Files.{geometry_of}
 use Rattle.meta_store.specs.Meta.{Meta}
 use Rattle.dm_service.specs.Services.{AreBoth}
-use Rattle.file_store.specs.declared.refusal.StoreRefusal.{StoreRefusal}
-use Rattle.file_store.specs.declared.refusal.StoreRefusal.TheVariants.{Memory}
+use Rattle.snapshot_text.specs.declared.refusal.MetaRefusal.{MetaRefusal}
+use Rattle.snapshot_text.specs.declared.refusal.MetaRefusal.TheVariants.{Memory}
 use Rattle.file_store.specs.Changes.{Ends, Changes}
 use Rattle.file_store.specs.Looks.{Looks}
 use Rattle.file_store.specs.Stores.{Store as FileStore, superblock_of}
@@ -44,7 +44,7 @@ use Rattle.hsm_core.proofs.SeenServices.{kept_seen, other_stubs_seen, reading_se
 -- ---- what is done after a look
 
 -- by which all is held as before
-ends_on : {D S T : Type 0} (g : disk.Ghosts D) (old mid new : FileStore D) (n : ℕ) (x : S) (r : Result T StoreRefusal) → Ends g old n None (Ok x) mid → mid.held ≡ old.held → Ends g mid n None r new → Ends g old n None r new
+ends_on : {D S T : Type 0} (g : disk.Ghosts D) (old mid new : FileStore D) (n : ℕ) (x : S) (r : Result T MetaRefusal) → Ends g old n None (Ok x) mid → mid.held ≡ old.held → Ends g mid n None r new → Ends g old n None r new
 ends_on g old mid new n x r before same is = record {
   judged = is.judged;
   refused = is.refused;
@@ -55,24 +55,24 @@ ends_on g old mid new n x r before same is = record {
   proceeds = proceeds_on g old mid new n before.proceeds same is.proceeds;
 }
 
-abbrev ServesOver : {D : Type 0} → disk.Ghosts D → FileStore D → DmCall → Result (DmReply × DmReply) StoreRefusal → Superblock → Held → Type 0
+abbrev ServesOver : {D : Type 0} → disk.Ghosts D → FileStore D → DmCall → Result (DmReply × DmReply) MetaRefusal → Superblock → Held → Type 0
 ServesOver g new call result s h = IfOk result (λ r. IsOfSeen (Tells g new.disk) h (λ seen. ServesBy (service_over s seen call) (change_of anybody call) h new.held r))
 
 super_same : {D : Type 0} (a b : FileStore D) → a.meta ≡ b.meta → superblock_of a ≡ superblock_of b
 super_same a b same = ap (λ (m : Meta). record { geometry = geometry_of m.durable.geometry; fsid = m.fsid }) same
 
-served_on : {D S : Type 0} (g : disk.Ghosts D) (old mid new : FileStore D) (n : ℕ) (call : DmCall) (result : Result (DmReply × DmReply) StoreRefusal) (x : S) → Looks g old (Ok x) mid → IsServed g mid n call result new → IsServed g old n call result new
+served_on : {D S : Type 0} (g : disk.Ghosts D) (old mid new : FileStore D) (n : ℕ) (call : DmCall) (result : Result (DmReply × DmReply) MetaRefusal) (x : S) → Looks g old (Ok x) mid → IsServed g mid n call result new → IsServed g old n call result new
 served_on g old mid new n call result x looks is = record {
   serves = subst (λ (s : Superblock). ServesOver g new call result s old.held) (super_same mid old looks.meta) (subst (λ (h : Held). ServesOver g new call result (superblock_of mid) h) looks.held is.serves);
   ends = ends_on g old mid new n x result (looks.ends n) looks.held is.ends;
 }
 
-no_reply : (P : StoreRefusal → Type 0) (Q : DmReply × DmReply → Type 0) (result : Result (DmReply × DmReply) StoreRefusal) → IsErrAnd result P → IfOk result Q
-no_reply P Q result is = subst (λ (r : Result (DmReply × DmReply) StoreRefusal). IfOk r Q) (sym (err_from_is_err_and result is).1) tt
+no_reply : (P : MetaRefusal → Type 0) (Q : DmReply × DmReply → Type 0) (result : Result (DmReply × DmReply) MetaRefusal) → IsErrAnd result P → IfOk result Q
+no_reply P Q result is = subst (λ (r : Result (DmReply × DmReply) MetaRefusal). IfOk r Q) (sym (err_from_is_err_and result is).1) tt
 
-module _ {D S : Type 0} (g : disk.Ghosts D) (old new : FileStore D) (n : ℕ) (call : DmCall) (result : Result (DmReply × DmReply) StoreRefusal) where
+module _ {D S : Type 0} (g : disk.Ghosts D) (old new : FileStore D) (n : ℕ) (call : DmCall) (result : Result (DmReply × DmReply) MetaRefusal) where
   -- the look has failed, so nothing is answered
-  pub failed_served : (why : StoreRefusal) → Looks {T = S} g old (Err why) new → IsErrAnd result (λ e. e ≡ why) → IsServed g old n call result new
+  pub failed_served : (why : MetaRefusal) → Looks {T = S} g old (Err why) new → IsErrAnd result (λ e. e ≡ why) → IsServed g old n call result new
   failed_served why looks is = record { serves = no_reply _ _ result is; ends = look_failed g old new why result looks is n }
 
   -- there is no memory to answer
@@ -142,7 +142,7 @@ module _ {D : Type 0} (g : disk.Ghosts D) (old : FileStore D) (n : ℕ) (handle 
         }
 
     -- they are
-    pub seal_served : (new : FileStore D) (ended : Result Unit StoreRefusal) (result : Result (DmReply × DmReply) StoreRefusal) → other_print (entry_print entry) got ≡ None
+    pub seal_served : (new : FileStore D) (ended : Result Unit MetaRefusal) (result : Result (DmReply × DmReply) MetaRefusal) → other_print (entry_print entry) got ≡ None
         → Changes g mid n handle.key (Seals j entry) (many_in (superblock_of mid) mid.held) ended new → result ≡ replies_to ended → IsServed g old n Sealing result new
     seal_served new ended result none changed told =
         let seen : Held = by_bytes.0 in

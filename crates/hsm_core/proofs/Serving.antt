@@ -28,7 +28,7 @@ use Rattle.plain_model.specs.Ledger.{Ledger, ledger_told}
 use Rattle.plain_model.specs.Seen.{IsOfSeen}
 use Rattle.plain_model.specs.State.{Held, State, noted, changed}
 use Rattle.plain_model.specs.Services.{Service, service, scope_refusals, dm_judged, dm_reply_where, dm_reply_to, dm_state_where, dm_state_after}
-use Rattle.file_store.specs.declared.refusal.StoreRefusal.{StoreRefusal}
+use Rattle.snapshot_text.specs.declared.refusal.MetaRefusal.{MetaRefusal}
 use Rattle.file_store.specs.Stores.{Store as FileStore}
 use Rattle.dm_service.specs.Services.{asks_rights, asks_tables, done_or, session_refusals, AreBoth, Judges}
 use Rattle.dm_service.specs.Tables.{Tables}
@@ -173,7 +173,7 @@ module _ (Told : Type 0) (s : Superblock) (h : Held) (stamps : List (FileKey × 
   abbrev pub Serves : DmReply × DmReply → Type 0
   Serves r = IsOfSeen Told h (λ seen. ServesBy (asked s seen stamps t sid call) (change_of sid call) h left r)
 
-  pub served_replies : (result : Result (DmReply × DmReply) StoreRefusal) → first_refusal (scope_refusals s (state_with h stamps t number) sid (scope_of call)) ≡ None → IfOk result Serves
+  pub served_replies : (result : Result (DmReply × DmReply) MetaRefusal) → first_refusal (scope_refusals s (state_with h stamps t number) sid (scope_of call)) ≡ None → IfOk result Serves
       → IfOk result (λ r. IsOfSeen Told h (λ seen. AreBoth (dm_reply_to s (state_with seen stamps t number) sid call) r))
   served_replies (Ok r) none serves =
       let seen : Held = serves.0 in
@@ -181,7 +181,7 @@ module _ (Told : Type 0) (s : Superblock) (h : Held) (stamps : List (FileKey × 
       (seen, serves.1, subst (λ (x : DmReply). AreBoth x r) (served_reply s seen stamps t number sid call passed) serves.2.replies)
   served_replies (Err e) none serves = tt
 
-  pub served_left : (result : Result (DmReply × DmReply) StoreRefusal) → asks_tables call ≡ false → asks_rights call ≡ false → IfOk result Serves
+  pub served_left : (result : Result (DmReply × DmReply) MetaRefusal) → asks_tables call ≡ false → asks_rights call ≡ false → IfOk result Serves
       → IfOk result (λ r. state_with left stamps t (number + 1) ≡ left_told (state_with h stamps t number) sid call r.1)
   served_left (Ok r) is no_rights serves =
       let seen : Held = serves.0 in
@@ -194,7 +194,7 @@ module _ (Told : Type 0) (s : Superblock) (h : Held) (stamps : List (FileKey × 
 
 module _ {D : Type 0} (g : disk.Ghosts D) (old new : FileStore D) (n : ℕ) (stamps : List (FileKey × ℕ)) (t : Tables) (sid : Sid) where
   -- a change asks of the files alone
-  pub change_performed : (call : DmCall) (result : Result (DmReply × DmReply) StoreRefusal) → changes_file call ≡ true → IsServed g old n call result new → IsPerformed g old n stamps t sid call result new
+  pub change_performed : (call : DmCall) (result : Result (DmReply × DmReply) MetaRefusal) → changes_file call ≡ true → IsServed g old n call result new → IsPerformed g old n stamps t sid call result new
   change_performed (SetRegion token handle regions) result is served = record { serves = served.serves; ends = served.ends }
   change_performed (SetDmAttr token handle name value) result is served = record { serves = served.serves; ends = served.ends }
   change_performed (RemoveDmAttr token handle name) result is served = record { serves = served.serves; ends = served.ends }
@@ -206,7 +206,7 @@ module _ {D : Type 0} (g : disk.Ghosts D) (old new : FileStore D) (n : ℕ) (sta
   change_performed call result is served = absurd cc
 
   -- so does a read
-  pub read_performed : (token : Token) (handle : Handle) (offset len : ℕ) (result : Result (DmReply × DmReply) StoreRefusal) → IsServed g old n (ReadInvis no_token handle offset len) result new
+  pub read_performed : (token : Token) (handle : Handle) (offset len : ℕ) (result : Result (DmReply × DmReply) MetaRefusal) → IsServed g old n (ReadInvis no_token handle offset len) result new
       → IsPerformed g old n stamps t sid (ReadInvis token handle offset len) result new
   read_performed token handle offset len result served = record { serves = served.serves; ends = served.ends }
 

@@ -25,7 +25,7 @@ use Rattle.dm_service.specs.declared.verdict.Verdict.{Verdict}
 use Rattle.dm_service.specs.declared.verdict.Verdict.TheVariants.{Answered, Block, Post, NoSpace, Complete}
 use Rattle.dm_service.specs.Services.{AreBoth}
 use Rattle.dm_service.specs.Tables.{Tables}
-use Rattle.file_store.specs.declared.refusal.StoreRefusal.{StoreRefusal}
+use Rattle.snapshot_text.specs.declared.refusal.MetaRefusal.{MetaRefusal}
 use Rattle.file_store.specs.Stores.{Store as FileStore, superblock_of}
 use Rattle.file_store.specs.Changes.{Ends}
 use Rattle.hsm_core.specs.Stamps.{stamp_in}
@@ -89,7 +89,7 @@ stamps_said number k call Complete stamps = stamps_by number k call None stamps
 stamps_said number k call said stamps = stamps
 
 -- The access has ended as was said of it, under that number. The replies are those over what is seen of the files.
-pub record IsFinished {D : Type 0} (g : disk.Ghosts D) (old : FileStore D) (n : ℕ) (before : List (FileKey × ℕ)) (k : FileKey) (call : Call) (said : Verdict) (result : Result (Reply × Reply) StoreRefusal) (new : FileStore D) (after : List (FileKey × ℕ)) : Type 0 where
+pub record IsFinished {D : Type 0} (g : disk.Ghosts D) (old : FileStore D) (n : ℕ) (before : List (FileKey × ℕ)) (k : FileKey) (call : Call) (said : Verdict) (result : Result (Reply × Reply) MetaRefusal) (new : FileStore D) (after : List (FileKey × ℕ)) : Type 0 where
   pub replies : IfOk result (λ r. IsOfSeen (Tells g new.disk) old.held (λ seen. AreBoth (ended_reply seen k call said) r))
   pub held : OnOk result (new.held ≡ held_said old.held k call said)
   pub stamps : OnOk result (stamp_in after ≡ stamps_said (n + 1) k call said (stamp_in before))
@@ -99,7 +99,7 @@ pub record IsFinished {D : Type 0} (g : disk.Ghosts D) (old : FileStore D) (n : 
 
 -- The event of that caller was answered, under that number: both replies are the store's over what is seen of the files, and the state is the one that it
 -- leaves. What isn't answered leaves stamps and tables.
-pub record IsReplied {D : Type 0} (g : disk.Ghosts D) (old : FileStore D) (n : ℕ) (stamps : List (FileKey × ℕ)) (t : Tables) (c : ℕ) (action : Action) (result : Result (Reply × Reply) StoreRefusal) (new : FileStore D) (stamps' : List (FileKey × ℕ)) (u : Tables) : Type 0 where
+pub record IsReplied {D : Type 0} (g : disk.Ghosts D) (old : FileStore D) (n : ℕ) (stamps : List (FileKey × ℕ)) (t : Tables) (c : ℕ) (action : Action) (result : Result (Reply × Reply) MetaRefusal) (new : FileStore D) (stamps' : List (FileKey × ℕ)) (u : Tables) : Type 0 where
   pub replies : IfOk result (λ r. IsOfSeen (Tells g new.disk) old.held (λ seen. AreBoth (reply_to (superblock_of old) (state_with seen stamps t n) c action) r))
   pub left : OnOk result (state_with new.held stamps' u (n + 1) ≡ state_after (superblock_of old) (state_with old.held stamps t n) c action)
   pub unstamped : OnErr result (stamps' ≡ stamps)

@@ -23,8 +23,8 @@ use Rattle.plain_model.specs.State.{FileState, Held, nothing_held, affected_held
 use Rattle.plain_model.specs.Services.{Service, service, bad_handle}
 use Rattle.dm_service.specs.Services.{AreBoth, any_superblock}
 use Rattle.dm_service.specs.Tables.{Tables}
-use Rattle.file_store.specs.declared.refusal.StoreRefusal.{StoreRefusal}
-use Rattle.file_store.specs.declared.refusal.StoreRefusal.TheVariants.{Part}
+use Rattle.snapshot_text.specs.declared.refusal.MetaRefusal.{MetaRefusal}
+use Rattle.snapshot_text.specs.declared.refusal.MetaRefusal.TheVariants.{Part}
 use Rattle.file_store.specs.Stores.{Store as FileStore, superblock_of}
 use Rattle.file_store.specs.Changes.{Ends}
 use Rattle.hsm_core.specs.Store.{state_with}
@@ -116,12 +116,12 @@ pub record ServesBy (v : Service) (change : Change) (old new : Held) (r : DmRepl
 
 -- A call on files that its scope doesn't refuse was served: it was answered by its service over what is seen of the files, and its change was made where
 -- that doesn't refuse. The tables have no part in it.
-pub record IsPerformed {D : Type 0} (g : disk.Ghosts D) (old : FileStore D) (n : ℕ) (stamps : List (FileKey × ℕ)) (t : Tables) (sid : Sid) (call : DmCall) (result : Result (DmReply × DmReply) StoreRefusal) (new : FileStore D) : Type 0 where
+pub record IsPerformed {D : Type 0} (g : disk.Ghosts D) (old : FileStore D) (n : ℕ) (stamps : List (FileKey × ℕ)) (t : Tables) (sid : Sid) (call : DmCall) (result : Result (DmReply × DmReply) MetaRefusal) (new : FileStore D) : Type 0 where
   pub serves : IfOk result (λ r. IsOfSeen (Tells g new.disk) old.held (λ seen. ServesBy (asked (superblock_of old) seen stamps t sid call) (change_of sid call) old.held new.held r))
   pub ends : Ends g old n None result new
 
 -- The same of a call that asks of the files alone.
-pub record IsServed {D : Type 0} (g : disk.Ghosts D) (old : FileStore D) (n : ℕ) (call : DmCall) (result : Result (DmReply × DmReply) StoreRefusal) (new : FileStore D) : Type 0 where
+pub record IsServed {D : Type 0} (g : disk.Ghosts D) (old : FileStore D) (n : ℕ) (call : DmCall) (result : Result (DmReply × DmReply) MetaRefusal) (new : FileStore D) : Type 0 where
   pub serves : IfOk result (λ r. IsOfSeen (Tells g new.disk) old.held (λ seen. ServesBy (service_over (superblock_of old) seen call) (change_of anybody call) old.held new.held r))
   pub ends : Ends g old n None result new
 
@@ -141,7 +141,7 @@ pub record IsGranted {E : Type 0} (t : Tables) (call : DmCall) (result : Result 
   pub err : OnErr result (u ≡ t)
 
 -- The replies to a change of what is kept with a file: that it is done, or why its part refuses it. Else it ends as the change has.
-abbrev pub replies_to : {T : Type 0} → Result T StoreRefusal → Result (DmReply × DmReply) StoreRefusal
+abbrev pub replies_to : {T : Type 0} → Result T MetaRefusal → Result (DmReply × DmReply) MetaRefusal
 replies_to (Ok x) = Ok (reply.Done, reply.Done)
 replies_to (Err (Part why)) = Ok (reply.Refused why, reply.Refused why)
 replies_to (Err e) = Err e

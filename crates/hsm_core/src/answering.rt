@@ -25,9 +25,10 @@ use crate::performing::{perform, perform_alone};
 use crate::stamps::note_access;
 use disk_model::Disk;
 use dm_service::{Access, DmService, Facts, Verdict};
-use file_store::{FileStore, StoreRefusal};
+use file_store::FileStore;
 use hsm_types::{Call, CallRefusal, CallerId, FileKey, Reply, Response};
 use indexmap::IndexMap;
+use snapshot_text::MetaRefusal;
 use std::alloc::Global;
 
 /// Answers a call that the caller issues, and renews the stamp of the file that it accesses. The number is that of the last entry before it.
@@ -39,7 +40,7 @@ pub(crate) fn answer<D: Disk>(
     caller: CallerId,
     access: &Access,
     number: u64,
-) -> Result<(Reply, Reply), StoreRefusal>
+) -> Result<(Reply, Reply), MetaRefusal>
     requires working { files.old.failed ≡ false }
     requires room { 0 < spare stamps.old }
     requires number { number < 2 ^ 63 }
@@ -72,7 +73,7 @@ fn begin<D: Disk>(
     target: Option<Target>,
     access: &Access,
     number: u64,
-) -> Result<(Reply, Reply), StoreRefusal>
+) -> Result<(Reply, Reply), MetaRefusal>
     requires working { files.old.failed ≡ false }
     requires room { 0 < spare stamps.old }
     requires number { number < 2 ^ 63 }
@@ -110,7 +111,7 @@ pub(crate) fn answer_again<D: Disk>(
     alloc: Global,
     caller: CallerId,
     number: u64,
-) -> Result<(Reply, Reply), StoreRefusal>
+) -> Result<(Reply, Reply), MetaRefusal>
     requires working { files.old.failed ≡ false }
     requires room { is_aborted (waiting service.old caller) ≡ false → 0 < spare stamps.old }
     requires number { number < 2 ^ 63 }
@@ -139,7 +140,7 @@ fn go_on<D: Disk>(
     alloc: Global,
     caller: CallerId,
     number: u64,
-) -> Result<(Reply, Reply), StoreRefusal>
+) -> Result<(Reply, Reply), MetaRefusal>
     requires working { files.old.failed ≡ false }
     requires room { is_aborted (waiting service.old caller) ≡ false → 0 < spare stamps.old }
     requires number { number < 2 ^ 63 }
@@ -188,7 +189,7 @@ fn finish<D: Disk>(
     access: &Access,
     verdict: Verdict,
     number: u64,
-) -> Result<(Reply, Reply), StoreRefusal>
+) -> Result<(Reply, Reply), MetaRefusal>
     requires working { files.old.failed ≡ false }
     requires room { verdict ≡ Verdict.Complete → 0 < spare stamps.old }
     requires number { number < 2 ^ 63 }

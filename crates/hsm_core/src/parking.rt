@@ -11,8 +11,9 @@ ghost use Rattle.hsm_core.specs.Outcomes.{MayAsk};
 
 use disk_model::Disk;
 use dm_service::{Access, DmService, Facts, NoRoom};
-use file_store::{FileStore, StoreRefusal};
+use file_store::FileStore;
 use hsm_types::{Call, CallerId, FileKey, Kind, Range, Reply, Token};
+use snapshot_text::MetaRefusal;
 use std::alloc::{AllocError, Global};
 
 /// Posts an event of that kind for a new access to the file with that key, which parks on its token.
@@ -25,13 +26,13 @@ pub(crate) fn wait<D: Disk>(
     access: &Access,
     facts: &Facts,
     kind: Kind,
-) -> Result<(Reply, Reply), StoreRefusal>
+) -> Result<(Reply, Reply), MetaRefusal>
     requires idle { waiting service.old caller ≡ None }
     requires asks { MayAsk access.now.call kind }
     ensures reply { IfOk result (λ r. AreBoth (Parked (next_token (ledger_of service.old))) r) }
     ensures after { OnOk result (seen service.new ≡ parked_on caller (record access.now { key = key }) kind (record { fsid = (superblock_of files.now).fsid; key = key }) (told_span access.now.call facts.now.short kind) (seen service.old)) }
     ensures err { OnErr result (service.new ≡ service.old) }
-    ensures memory { IfErr result (λ why. why ≡ StoreRefusal.Memory) }
+    ensures memory { IfErr result (λ why. why ≡ MetaRefusal.Memory) }
     ensures counted { OnOk result (awaited_in service.new ≡ awaited_in service.old + 2) }
 {
     let waits = to_file(access, key)?;
@@ -49,13 +50,13 @@ pub(crate) fn wait_again<D: Disk>(
     caller: CallerId,
     facts: &Facts,
     kind: Kind,
-) -> Result<(Reply, Reply), StoreRefusal>
+) -> Result<(Reply, Reply), MetaRefusal>
     requires waits { IsSome (waiting service.old caller) }
     requires asks { IfSome (waiting service.old caller) (λ a. MayAsk a.call kind) }
     ensures reply { IfOk result (λ r. AreBoth (Parked (next_token (ledger_of service.old))) r) }
     ensures after { OnOk result (IfSome (waiting service.old caller) (λ a. seen service.new ≡ parked_on caller a kind (record { fsid = (superblock_of files.now).fsid; key = a.key }) (told_span a.call facts.now.short kind) (seen service.old))) }
     ensures err { OnErr result (service.new ≡ service.old) }
-    ensures memory { IfErr result (λ why. why ≡ StoreRefusal.Memory) }
+    ensures memory { IfErr result (λ why. why ≡ MetaRefusal.Memory) }
     ensures counted { OnOk result (awaited_in service.new ≡ awaited_in service.old + 1) }
 {
     let access = service.pending(caller).unwrap();
@@ -72,12 +73,12 @@ pub(crate) fn block(
     key: FileKey,
     access: &Access,
     token: Token,
-) -> Result<(Reply, Reply), StoreRefusal>
+) -> Result<(Reply, Reply), MetaRefusal>
     requires { waiting service.old caller ≡ None }
     ensures reply { IfOk result (λ r. AreBoth (Blocked token) r) }
     ensures after { OnOk result (seen service.new ≡ with_access caller (Some (blocked (record access.now { key = key }))) (seen service.old)) }
     ensures err { OnErr result (service.new ≡ service.old) }
-    ensures memory { IfErr result (λ why. why ≡ StoreRefusal.Memory) }
+    ensures memory { IfErr result (λ why. why ≡ MetaRefusal.Memory) }
     ensures counted { OnOk result (awaited_in service.new ≡ awaited_in service.old + 1) }
 {
     service.block(caller, to_file(access, key)?);

@@ -20,8 +20,9 @@ ghost use Rattle.hsm_core.specs.Crashes.{IsSynced};
 
 use crate::judging::Target;
 use disk_model::Disk;
-use file_store::{FileStore, StoreRefusal};
+use file_store::FileStore;
 use hsm_types::{Bytes, Call, FileKey, Reply, Word};
+use snapshot_text::MetaRefusal;
 use std::alloc::Global;
 
 /// Does a call on a file.
@@ -31,7 +32,7 @@ pub(crate) fn perform<D: Disk>(
     target: Target,
     call: &Call,
     number: u64,
-) -> Result<(Reply, Reply), StoreRefusal>
+) -> Result<(Reply, Reply), MetaRefusal>
     requires working { files.old.failed ≡ false }
     requires idle { Proceeds D.Disk files.old number files.old }
     requires rises { files.old.meta.number ≤ number }
@@ -65,7 +66,7 @@ pub(crate) fn perform_alone<D: Disk>(
     alloc: Global,
     call: &Call,
     number: u64,
-) -> Result<(Reply, Reply), StoreRefusal>
+) -> Result<(Reply, Reply), MetaRefusal>
     requires working { files.old.failed ≡ false }
     requires idle { Proceeds D.Disk files.old number files.old }
     requires rises { files.old.meta.number ≤ number }
@@ -89,7 +90,7 @@ fn create<D: Disk>(
     alloc: Global,
     name: &Word,
     number: u64,
-) -> Result<(Reply, Reply), StoreRefusal>
+) -> Result<(Reply, Reply), MetaRefusal>
     requires working { files.old.failed ≡ false }
     requires rises { files.old.meta.number ≤ number }
     requires lawful { refusal_of (superblock_of files.old) (names_of files.old.held.files) (Create name.now) ≡ None }
@@ -108,7 +109,7 @@ fn read<D: Disk>(
     key: FileKey,
     offset: u64,
     len: u64,
-) -> Result<(Reply, Reply), StoreRefusal>
+) -> Result<(Reply, Reply), MetaRefusal>
     requires working { files.old.failed ≡ false }
     requires live { IsSome (find_key (λ f. f.key) key files.old.held.files) }
     ensures reply { IfOk result (λ r. IsOfSeen (Tells D.Disk files.new.disk) files.old.held (λ seen. AreBoth (Data (read_at offset len (bytes_of key seen.files))) r)) }
@@ -128,7 +129,7 @@ fn write<D: Disk>(
     offset: u64,
     body: &Bytes,
     number: u64,
-) -> Result<(Reply, Reply), StoreRefusal>
+) -> Result<(Reply, Reply), MetaRefusal>
     requires working { files.old.failed ≡ false }
     requires rises { files.old.meta.number ≤ number }
     requires live { IsSome (find_key (λ f. f.key) key files.old.held.files) }
@@ -151,7 +152,7 @@ fn truncate<D: Disk>(
     key: FileKey,
     size: u64,
     number: u64,
-) -> Result<(Reply, Reply), StoreRefusal>
+) -> Result<(Reply, Reply), MetaRefusal>
     requires working { files.old.failed ≡ false }
     requires rises { files.old.meta.number ≤ number }
     requires live { IsSome (find_key (λ f. f.key) key files.old.held.files) }
@@ -171,7 +172,7 @@ fn remove<D: Disk>(
     alloc: Global,
     key: FileKey,
     number: u64,
-) -> Result<(Reply, Reply), StoreRefusal>
+) -> Result<(Reply, Reply), MetaRefusal>
     requires working { files.old.failed ≡ false }
     requires rises { files.old.meta.number ≤ number }
     requires live { IsSome (find_key (λ f. f.key) key files.old.held.files) }
@@ -187,7 +188,7 @@ pub(crate) fn commit<D: Disk>(
     files: &mut FileStore<D>,
     alloc: Global,
     number: u64,
-) -> Result<(Reply, Reply), StoreRefusal>
+) -> Result<(Reply, Reply), MetaRefusal>
     requires working { files.old.failed ≡ false }
     requires rises { files.old.meta.number ≤ number }
     ensures reply { IfOk result (λ r. AreBoth Reply.Done r) }

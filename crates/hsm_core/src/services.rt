@@ -29,11 +29,12 @@ mod tables;
 
 use disk_model::Disk;
 use dm_service::{DmService, asks_rights, asks_tables};
-use file_store::{FileStore, StoreRefusal};
+use file_store::FileStore;
 use hsm_types::{DmCall, DmReply, FileKey, Sid};
 use indexmap::IndexMap;
 use replies::refused;
 use scope::judge_scope;
+use snapshot_text::MetaRefusal;
 use std::alloc::{AllocError, Global};
 pub(crate) use tables::table_of;
 
@@ -46,7 +47,7 @@ pub(crate) fn serve<D: Disk>(
     sid: Sid,
     call: &DmCall,
     number: u64,
-) -> Result<(DmReply, DmReply), StoreRefusal>
+) -> Result<(DmReply, DmReply), MetaRefusal>
     requires working { files.old.failed ≡ false }
     requires idle { Proceeds D.Disk files.old number files.old }
     requires rises { files.old.meta.number ≤ number }
@@ -80,7 +81,7 @@ fn perform<D: Disk>(
     sid: Sid,
     call: &DmCall,
     number: u64,
-) -> Result<(DmReply, DmReply), StoreRefusal>
+) -> Result<(DmReply, DmReply), MetaRefusal>
     requires working { files.old.failed ≡ false }
     requires idle { Proceeds D.Disk files.old number files.old }
     requires rises { files.old.meta.number ≤ number }
@@ -126,7 +127,7 @@ fn change<D: Disk>(
     alloc: Global,
     call: &DmCall,
     number: u64,
-) -> Result<(DmReply, DmReply), StoreRefusal>
+) -> Result<(DmReply, DmReply), MetaRefusal>
     requires working { files.old.failed ≡ false }
     requires idle { Proceeds D.Disk files.old number files.old }
     requires rises { files.old.meta.number ≤ number }

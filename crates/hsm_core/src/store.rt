@@ -35,12 +35,13 @@ use crate::totals::offline_of;
 use commit_slots::CommitSlots;
 use disk_model::{Disk, Failed, OpenRefusal};
 use dm_service::{Access, DmService};
-use file_store::{FileStore, StoreRefusal};
+use file_store::FileStore;
 use hsm_types::{
     Call, CallRefusal, CallerId, DmCall, DmRefusal, DmReply, FileKey, Reply, Response, Sid, Token,
 };
 use indexmap::IndexMap;
 use plain_model::{Action, Actor, Answer, Entry, History, run_is_good};
+use snapshot_text::MetaRefusal;
 use std::alloc::{AllocError, Global};
 use std::marker::Model;
 use std::snapshot::Snapshot;
@@ -97,19 +98,19 @@ fn make_ready<D: Disk>(
     history: &mut Vec<Entry>,
     awaited: usize,
     more: usize,
-) -> Result<(), StoreRefusal>
+) -> Result<(), MetaRefusal>
     ensures same { history.new.items ≡ history.old.items }
     ensures room { OnOk result ((vec_len history.new + awaited + more ≤ vec_capacity history.new) × (awaited + more < 2 ^ 64)) }
     ensures keeps { vec_capacity history.old ≤ vec_capacity history.new }
     ensures there { files.now.failed ≡ false → vec_len history.old + awaited + more ≤ vec_capacity history.old → IsOk result }
     ensures working { OnOk result (files.now.failed ≡ false) }
     ensures idle { files.now.failed ≡ false → (n : ℕ) → Proceeds D.Disk files.now n files.now }
-    ensures refused { IfErr result (λ why. (why ≡ StoreRefusal.Disk) × (files.now.failed ≡ true) ⊎ (why ≡ StoreRefusal.Memory) × (files.now.failed ≡ false)) }
+    ensures refused { IfErr result (λ why. (why ≡ MetaRefusal.Disk) × (files.now.failed ≡ true) ⊎ (why ≡ MetaRefusal.Memory) × (files.now.failed ≡ false)) }
 {
     if files.has_failed() {
-        return Err(StoreRefusal::Disk);
+        return Err(MetaRefusal::Disk);
     }
-    let entries = awaited.checked_add(more).ok_or(StoreRefusal::Memory)?;
+    let entries = awaited.checked_add(more).ok_or(MetaRefusal::Memory)?;
     history.reserve(entries)?;
     Ok(())
 }
@@ -120,14 +121,14 @@ fn make_ready_for_access<D: Disk>(
     history: &mut Vec<Entry>,
     awaited: usize,
     stamps: &mut IndexMap<FileKey, u64>,
-) -> Result<(), StoreRefusal>
+) -> Result<(), MetaRefusal>
     ensures same { history.new.items ≡ history.old.items }
     ensures stamps { stamps.new.entries ≡ stamps.old.entries }
     ensures room { OnOk result ((vec_len history.new + awaited + 3 ≤ vec_capacity history.new) × (0 < spare stamps.new)) }
     ensures keeps { vec_capacity history.old ≤ vec_capacity history.new }
     ensures working { OnOk result (files.now.failed ≡ false) }
     ensures idle { files.now.failed ≡ false → (n : ℕ) → Proceeds D.Disk files.now n files.now }
-    ensures refused { IfErr result (λ why. (why ≡ StoreRefusal.Disk) × (files.now.failed ≡ true) ⊎ (why ≡ StoreRefusal.Memory) × (files.now.failed ≡ false)) }
+    ensures refused { IfErr result (λ why. (why ≡ MetaRefusal.Disk) × (files.now.failed ≡ true) ⊎ (why ≡ MetaRefusal.Memory) × (files.now.failed ≡ false)) }
 {
     make_ready(files, history, awaited, 3)?;
     make_room(stamps)?;
@@ -142,7 +143,7 @@ fn make_ready_to_resume<D: Disk>(
     awaited: usize,
     stamps: &mut IndexMap<FileKey, u64>,
     aborted: bool,
-) -> Result<(), StoreRefusal>
+) -> Result<(), MetaRefusal>
     ensures same { history.new.items ≡ history.old.items }
     ensures stamps { stamps.new.entries ≡ stamps.old.entries }
     ensures room { OnOk result (vec_len history.new + awaited + (if aborted then 0 else 2) ≤ vec_capacity history.new) }
@@ -151,7 +152,7 @@ fn make_ready_to_resume<D: Disk>(
     ensures there { files.now.failed ≡ false → aborted ≡ true → vec_len history.old + awaited ≤ vec_capacity history.old → IsOk result }
     ensures working { OnOk result (files.now.failed ≡ false) }
     ensures idle { files.now.failed ≡ false → (n : ℕ) → Proceeds D.Disk files.now n files.now }
-    ensures refused { IfErr result (λ why. (why ≡ StoreRefusal.Disk) × (files.now.failed ≡ true) ⊎ (why ≡ StoreRefusal.Memory) × (files.now.failed ≡ false)) }
+    ensures refused { IfErr result (λ why. (why ≡ MetaRefusal.Disk) × (files.now.failed ≡ true) ⊎ (why ≡ MetaRefusal.Memory) × (files.now.failed ≡ false)) }
 {
     if aborted {
         return make_ready(files, history, awaited, 0);
@@ -212,23 +213,23 @@ fn issued(call: Call) -> Access
 }
 
 /// The reply to a call that wasn't done.
-fn undone(why: StoreRefusal) -> Reply
-    ensures memory { why ≡ StoreRefusal.Memory → result ≡ Reply.Refused CallRefusal.Memory }
-    ensures failed { why ≡ StoreRefusal.Disk → result ≡ Reply.Refused CallRefusal.Disk }
+fn undone(why: MetaRefusal) -> Reply
+    ensures memory { why ≡ MetaRefusal.Memory → result ≡ Reply.Refused CallRefusal.Memory }
+    ensures failed { why ≡ MetaRefusal.Disk → result ≡ Reply.Refused CallRefusal.Disk }
 {
     match why {
-        StoreRefusal::Disk => Reply::Refused(CallRefusal::Disk),
+        MetaRefusal::Disk => Reply::Refused(CallRefusal::Disk),
         _ => Reply::Refused(CallRefusal::Memory),
     }
 }
 
 /// The reply to a session's call that wasn't done.
-fn unserved(why: StoreRefusal) -> DmReply
-    ensures memory { why ≡ StoreRefusal.Memory → result ≡ DmReply.Refused DmRefusal.Memory }
-    ensures failed { why ≡ StoreRefusal.Disk → result ≡ DmReply.Refused DmRefusal.Disk }
+fn unserved(why: MetaRefusal) -> DmReply
+    ensures memory { why ≡ MetaRefusal.Memory → result ≡ DmReply.Refused DmRefusal.Memory }
+    ensures failed { why ≡ MetaRefusal.Disk → result ≡ DmReply.Refused DmRefusal.Disk }
 {
     match why {
-        StoreRefusal::Disk => DmReply::Refused(DmRefusal::Disk),
+        MetaRefusal::Disk => DmReply::Refused(DmRefusal::Disk),
         _ => DmReply::Refused(DmRefusal::Memory),
     }
 }
@@ -253,17 +254,17 @@ fn record_event(
     history: &mut Vec<Entry>,
     actor: Actor,
     action: Action,
-    done: Result<(Reply, Reply), StoreRefusal>,
+    done: Result<(Reply, Reply), MetaRefusal>,
 ) -> Reply
     requires { vec_len history.old < vec_capacity history.old }
     ensures recorded { IfOk done (λ r. (result ≡ r.0) × (history.new.items ≡ history.old.items ++ entry_of actor action (Answer.Call r.1) ∷ [])) }
     ensures room { vec_capacity history.old ≤ vec_capacity history.new }
-    ensures memory { IsErrOf done StoreRefusal.Memory → (result ≡ Reply.Refused CallRefusal.Memory) × (history.new.items ≡ history.old.items) }
-    ensures failed { IsErrOf done StoreRefusal.Disk → (result ≡ Reply.Refused CallRefusal.Disk) × (history.new.items ≡ history.old.items ++ entry_of actor action (Answer.Call (Reply.Refused CallRefusal.Disk)) ∷ []) }
+    ensures memory { IsErrOf done MetaRefusal.Memory → (result ≡ Reply.Refused CallRefusal.Memory) × (history.new.items ≡ history.old.items) }
+    ensures failed { IsErrOf done MetaRefusal.Disk → (result ≡ Reply.Refused CallRefusal.Disk) × (history.new.items ≡ history.old.items ++ entry_of actor action (Answer.Call (Reply.Refused CallRefusal.Disk)) ∷ []) }
 {
     let (reply, again) = match done {
         Ok(replies) => replies,
-        Err(StoreRefusal::Disk) => (
+        Err(MetaRefusal::Disk) => (
             Reply::Refused(CallRefusal::Disk),
             Reply::Refused(CallRefusal::Disk),
         ),
@@ -278,17 +279,17 @@ fn record_dm(
     history: &mut Vec<Entry>,
     sid: Sid,
     call: DmCall,
-    done: Result<(DmReply, DmReply), StoreRefusal>,
+    done: Result<(DmReply, DmReply), MetaRefusal>,
 ) -> DmReply
     requires { vec_len history.old < vec_capacity history.old }
     ensures recorded { IfOk done (λ r. (result ≡ r.0) × (history.new.items ≡ history.old.items ++ entry_of (Actor.Session sid) (Action.Dm call) (Answer.Dm r.1) ∷ [])) }
     ensures room { vec_capacity history.old ≤ vec_capacity history.new }
-    ensures memory { IsErrOf done StoreRefusal.Memory → (result ≡ DmReply.Refused DmRefusal.Memory) × (history.new.items ≡ history.old.items) }
-    ensures failed { IsErrOf done StoreRefusal.Disk → (result ≡ DmReply.Refused DmRefusal.Disk) × (history.new.items ≡ history.old.items ++ entry_of (Actor.Session sid) (Action.Dm call) (Answer.Dm (DmReply.Refused DmRefusal.Disk)) ∷ []) }
+    ensures memory { IsErrOf done MetaRefusal.Memory → (result ≡ DmReply.Refused DmRefusal.Memory) × (history.new.items ≡ history.old.items) }
+    ensures failed { IsErrOf done MetaRefusal.Disk → (result ≡ DmReply.Refused DmRefusal.Disk) × (history.new.items ≡ history.old.items ++ entry_of (Actor.Session sid) (Action.Dm call) (Answer.Dm (DmReply.Refused DmRefusal.Disk)) ∷ []) }
 {
     let (reply, again) = match done {
         Ok(replies) => replies,
-        Err(StoreRefusal::Disk) => (
+        Err(MetaRefusal::Disk) => (
             DmReply::Refused(DmRefusal::Disk),
             DmReply::Refused(DmRefusal::Disk),
         ),

@@ -8,8 +8,9 @@ ghost use Rattle.hsm_core.specs.Services.{AreOf, service_on, IsServed};
 
 use crate::services::replies::{changed, refused, twice};
 use disk_model::Disk;
-use file_store::{FileStore, StoreRefusal};
+use file_store::FileStore;
 use hsm_types::{AttrName, Bytes, DmRefusal, DmReply, Handle};
+use snapshot_text::MetaRefusal;
 use std::alloc::{AllocError, Global};
 
 /// Gives an attribute its value.
@@ -20,7 +21,7 @@ pub(crate) fn set<D: Disk>(
     name: AttrName,
     value: &Bytes,
     number: u64,
-) -> Result<(DmReply, DmReply), StoreRefusal>
+) -> Result<(DmReply, DmReply), MetaRefusal>
     requires working { files.old.failed ≡ false }
     requires live { IsSome (find_key (λ f. f.key) handle.key files.old.held.files) }
     requires idle { Proceeds D.Disk files.old number files.old }
@@ -54,7 +55,7 @@ pub(crate) fn remove<D: Disk>(
     handle: Handle,
     name: AttrName,
     number: u64,
-) -> Result<(DmReply, DmReply), StoreRefusal>
+) -> Result<(DmReply, DmReply), MetaRefusal>
     requires working { files.old.failed ≡ false }
     requires live { IsSome (find_key (λ f. f.key) handle.key files.old.held.files) }
     requires idle { Proceeds D.Disk files.old number files.old }

@@ -16,8 +16,9 @@ use crate::services::ranges::{judge_access, judge_here, judge_room, judge_within
 use crate::services::replies::{changed, refused, twice};
 use disk_model::Disk;
 use file_body::touched_by_write;
-use file_store::{FileStore, StoreRefusal};
+use file_store::FileStore;
 use hsm_types::{Bytes, DmRefusal, DmReply, FileKey, Handle};
+use snapshot_text::MetaRefusal;
 use std::alloc::Global;
 
 /// Reads at most `len` bytes from the offset on.
@@ -27,7 +28,7 @@ pub(crate) fn read<D: Disk>(
     handle: Handle,
     offset: u64,
     len: u64,
-) -> Result<(DmReply, DmReply), StoreRefusal>
+) -> Result<(DmReply, DmReply), MetaRefusal>
     requires working { files.old.failed ≡ false }
     requires live { IsSome (find_key (λ f. f.key) handle.key files.old.held.files) }
     ensures { (n : ℕ) → IsServed D.Disk files.old n (ReadInvis no_token handle offset len) result files.new }
@@ -65,7 +66,7 @@ pub(crate) fn write<D: Disk>(
     offset: u64,
     body: &Bytes,
     number: u64,
-) -> Result<(DmReply, DmReply), StoreRefusal>
+) -> Result<(DmReply, DmReply), MetaRefusal>
     requires working { files.old.failed ≡ false }
     requires live { IsSome (find_key (λ f. f.key) handle.key files.old.held.files) }
     requires idle { Proceeds D.Disk files.old number files.old }

@@ -20,11 +20,12 @@ use crate::services::ranges::{judge_print, judge_room, judge_segment, state};
 use crate::services::replies::{changed, refused};
 use disk_model::Disk;
 use file_body::touched_by_restore;
-use file_store::{FileStore, StoreRefusal};
+use file_store::FileStore;
 use hsm_types::{
     DmCall, DmRefusal, DmReply, FILE_BYTES, FileKey, Handle, LAST_VOLUME, Limits, SEGMENT_BYTES,
     StubEntry, Verified, segments_in,
 };
+use snapshot_text::MetaRefusal;
 use std::alloc::Global;
 use stub_map::State;
 
@@ -34,7 +35,7 @@ pub(crate) fn serve<D: Disk>(
     alloc: Global,
     call: &DmCall,
     number: u64,
-) -> Result<(DmReply, DmReply), StoreRefusal>
+) -> Result<(DmReply, DmReply), MetaRefusal>
     requires working { files.old.failed ≡ false }
     requires idle { Proceeds D.Disk files.old number files.old }
     requires rises { files.old.meta.number ≤ number }
@@ -73,7 +74,7 @@ fn punch<D: Disk>(
     offset: u64,
     len: u64,
     number: u64,
-) -> Result<(DmReply, DmReply), StoreRefusal>
+) -> Result<(DmReply, DmReply), MetaRefusal>
     requires working { files.old.failed ≡ false }
     requires live { IsSome (find_key (λ f. f.key) handle.key files.old.held.files) }
     requires idle { Proceeds D.Disk files.old number files.old }
@@ -146,7 +147,7 @@ fn seal<D: Disk>(
     segment: u32,
     entry: StubEntry,
     number: u64,
-) -> Result<(DmReply, DmReply), StoreRefusal>
+) -> Result<(DmReply, DmReply), MetaRefusal>
     requires working { files.old.failed ≡ false }
     requires live { IsSome (find_key (λ f. f.key) handle.key files.old.held.files) }
     requires idle { Proceeds D.Disk files.old number files.old }
@@ -205,7 +206,7 @@ fn restore<D: Disk>(
     segment: u32,
     bytes: &Verified,
     number: u64,
-) -> Result<(DmReply, DmReply), StoreRefusal>
+) -> Result<(DmReply, DmReply), MetaRefusal>
     requires working { files.old.failed ≡ false }
     requires live { IsSome (find_key (λ f. f.key) handle.key files.old.held.files) }
     requires idle { Proceeds D.Disk files.old number files.old }

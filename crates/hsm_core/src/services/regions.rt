@@ -8,8 +8,9 @@ ghost use Rattle.hsm_core.specs.Services.{AreOf, service_on, IsServed};
 
 use crate::services::replies::{changed, twice};
 use disk_model::Disk;
-use file_store::{FileStore, StoreRefusal};
+use file_store::FileStore;
 use hsm_types::{DmReply, Handle, Regions};
+use snapshot_text::MetaRefusal;
 use std::alloc::{AllocError, Global};
 
 /// Replaces the regions of a file.
@@ -19,7 +20,7 @@ pub(crate) fn set<D: Disk>(
     handle: Handle,
     regions: &Regions,
     number: u64,
-) -> Result<(DmReply, DmReply), StoreRefusal>
+) -> Result<(DmReply, DmReply), MetaRefusal>
     requires working { files.old.failed ≡ false }
     requires live { IsSome (find_key (λ f. f.key) handle.key files.old.held.files) }
     requires idle { Proceeds D.Disk files.old number files.old }

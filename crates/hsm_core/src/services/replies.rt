@@ -3,8 +3,8 @@ ghost use Rattle.std.specs.Prelude.{◌≡◌, IfOk};
 ghost use Rattle.dm_service.specs.Services.{AreBoth};
 ghost use Rattle.hsm_core.specs.Services.{replies_to};
 
-use file_store::StoreRefusal;
 use hsm_types::{DmRefusal, DmReply};
+use snapshot_text::MetaRefusal;
 use std::alloc::AllocError;
 
 /// The reply and a copy of it.
@@ -30,12 +30,12 @@ pub(crate) fn done() -> (DmReply, DmReply)
 }
 
 /// The replies to a change of a file that is done, or that its part refuses.
-pub(crate) fn changed(ended: Result<(), StoreRefusal>) -> Result<(DmReply, DmReply), StoreRefusal>
+pub(crate) fn changed(ended: Result<(), MetaRefusal>) -> Result<(DmReply, DmReply), MetaRefusal>
     ensures { result ≡ replies_to ended }
 {
     match ended {
         Ok(()) => Ok(done()),
-        Err(StoreRefusal::Part(why)) => Ok(refused(why)),
+        Err(MetaRefusal::Part(why)) => Ok(refused(why)),
         Err(why) => Err(why),
     }
 }

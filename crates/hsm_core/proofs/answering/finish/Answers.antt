@@ -5,7 +5,7 @@ use Rattle.hsm_types.specs.declared.calls.CallRefusal.{CallRefusal}
 use Rattle.hsm_types.specs.declared.calls.Reply.{Reply}
 use Rattle.hsm_types.specs.declared.calls.Reply.TheVariants.{Refused}
 use Rattle.dm_service.specs.declared.verdict.Verdict.TheVariants.{Answered, Missing, NoSpace}
-use Rattle.file_store.specs.declared.refusal.StoreRefusal.{StoreRefusal}
+use Rattle.snapshot_text.specs.declared.refusal.MetaRefusal.{MetaRefusal}
 use Rattle.hsm_core.specs.Outcomes.{IsFinished}
 use Rattle.hsm_core.specs.Targets.{key_in}
 use Rattle.hsm_core.proofs.Refused.{refused_finished}
@@ -16,8 +16,8 @@ use Rattle.hsm_core.proofs.answering.finish.Goals as goal
 pub returns-in_err-replies-in-Complete : goal.returns-in_err-replies-in-Complete
 returns-in_err-replies-in-Complete g c =
     let p = err_from_is_err_and c.from_residual.result c.from_residual.ensures.1 in
-    subst (λ (r : Result (Reply × Reply) StoreRefusal). IsFinished g.D.Disk c.args.files.now c.args.number c.args.stamps.now.entries (key_in c.args.target) c.args.access.now.call c.args.verdict r c.perform.new.files c.args.stamps.now.entries)
-    (sym (p.1 ∙ ap (λ (e : StoreRefusal). Err e) p.2))
+    subst (λ (r : Result (Reply × Reply) MetaRefusal). IsFinished g.D.Disk c.args.files.now c.args.number c.args.stamps.now.entries (key_in c.args.target) c.args.access.now.call c.args.verdict r c.perform.new.files c.args.stamps.now.entries)
+    (sym (p.1 ∙ ap (λ (e : MetaRefusal). Err e) p.2))
     (record { replies = tt; held = tt; stamps = tt; unstamped = refl; answered = λ apart. absurd (apart c.in-Complete.is); ended = c.in_err-replies-in-Complete.ensures.ends })
 
 pub returns-in-Complete : goal.returns-in-Complete

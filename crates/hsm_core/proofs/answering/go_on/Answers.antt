@@ -11,7 +11,7 @@ use Rattle.plain_model.specs.Accesses.{told_span}
 use Rattle.dm_service.specs.Parking.{blocked, parked_on, with_access}
 use Rattle.dm_service.specs.Tables.{waiting, seen, pending_as}
 use Rattle.file_store.specs.Stores.{superblock_of}
-use Rattle.file_store.specs.declared.refusal.StoreRefusal.{StoreRefusal}
+use Rattle.snapshot_text.specs.declared.refusal.MetaRefusal.{MetaRefusal}
 use Rattle.hsm_core.specs.Outcomes.{ends, is_aborted, IsFinished, MayAsk}
 use Rattle.hsm_core.specs.Targets.{MayLast, key_in}
 use Rattle.hsm_core.proofs.Targets.{answered, posted, unaborted}
@@ -85,7 +85,7 @@ returns-in_ok-replies-in_default g c =
           c.find_again-target.result (waits g at) (goes g at) (last g at) c.find_again-target.ensures c.facts_again-facts.ensures
           c.end-ended.new.self _ c.finish.new.files c.finish.new.stamps.entries (sym (ap ends c.judge-verdict.ensures) ∙ ends_unless c.judge-verdict.result c.in_default.not-Post c.in_default.not-Block)
           (subst (λ (said : Verdict). IsFinished g.D.Disk c.args.files.now c.args.number c.args.stamps.now.entries (key_in c.find_again-target.result) c.unwrap-access.result.now.call said (Ok c.in_ok-replies-in_default.replies) c.finish.new.files c.finish.new.stamps.entries) c.judge-verdict.ensures
-          (subst (λ (r : Result (Reply × Reply) StoreRefusal). IsFinished g.D.Disk c.args.files.now c.args.number c.args.stamps.now.entries (key_in c.find_again-target.result) c.unwrap-access.result.now.call c.judge-verdict.result r c.finish.new.files c.finish.new.stamps.entries) c.in_ok-replies-in_default.was c.finish.ensures))
+          (subst (λ (r : Result (Reply × Reply) MetaRefusal). IsFinished g.D.Disk c.args.files.now c.args.number c.args.stamps.now.entries (key_in c.find_again-target.result) c.unwrap-access.result.now.call c.judge-verdict.result r c.finish.new.files c.finish.new.stamps.entries) c.in_ok-replies-in_default.was c.finish.ensures))
           c.end-ended.ensures.after tt;
       aborts = λ is. refl;
       room = one_less _ _ _ _ c.end-ended.ensures.counted (ap is_some (c.end-ended.ensures.access ∙ waits g at));

@@ -1,4 +1,4 @@
-use Rattle.file_store.proofs.Names.{None, rules, ◌≡◌, ◌-◌, ◌+◌, ◌*◌, ◌&&◌, ◌||◌, ℕ, refl, sym, ◌∙◌, ap, subst, arith, set, length, take, drop}
+use Rattle.file_store.proofs.Names.{None, ◌≡◌, ◌-◌, ◌+◌, ◌*◌, ◌&&◌, ◌||◌, ℕ, refl, sym, ◌∙◌, ap, subst, arith, set, length, take, drop}
 use Rattle.file_store.proofs.Names.{unmarked, after_all, refusal_of_all, CanStandAll, IsEvent, held_with, affected_held, present, HeldBody, no_body}
 use Rattle.file_store.proofs.Names.{is_away, get_or, get_or_read, Kept}
 use Rattle.std.specs.Prelude.{nat_le, nat_lt}
@@ -8,7 +8,7 @@ use Rattle.hsm_types.specs.Segments.{from_on}
 use Rattle.meta_store.specs.Batches.{FitEmpty}
 use Rattle.meta_store.specs.Catalogs.{AreLengths}
 use Rattle.file_store.specs.Punches.{punch_records}
-use Rattle.file_store.specs.Refusals.{is_disk, no_memory}
+use Rattle.snapshot_text.specs.Refusals.{no_memory}
 use Rattle.file_store.proofs.Durable.{Parts, IsDone, after_event}
 use Rattle.file_store.proofs.PunchedBodies.{zeroed}
 use Rattle.file_store.proofs.EventTexts.{digests_found, few_punched, few_fit}
@@ -115,9 +115,8 @@ pub returns-in-Err : goal.returns-in-Err
 returns-in-Err g c =
     let working = ap (λ s. s.failed) c.self.view_is ∙ c.requires.working in
     let at = (goal.at.returns-in-Err g c).After-of-before in
-    let failed : c.eq-self-inside.result ≡ is_disk c.in-Err.refusal = search rules in
     let none = ap (λ rs. refusal_of_all rs c.self.inside.meta.current) (records_are g at) ∙ (are_going (given g at) (last g at)).passed in
-    rw (c.in-Err.ensures.err, failed, c.from.ensures, ← c.self.view_is) record {
+    rw (c.in-Err.ensures.err, c.is_disk-self-inside.ensures, ← c.self.view_is) record {
       changed = record {
         held = tt;
         ends = kept_ends g.D.Disk (parts g at) c.apply.new.disk c.args.number None c.apply.result c.in-Err.refusal c.self.invariant.1 working c.in-Err.is c.apply.ensures.any_moment (λ part is. absurd (let some = (c.apply.ensures.refused part).0 is in cc)) c.apply.ensures.faults;

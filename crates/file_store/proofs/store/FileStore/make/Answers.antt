@@ -1,6 +1,6 @@
 use Rattle.file_store.proofs.Names.{Err, None, ◌≡◌, ◌<◌, refl, ◌∙◌, ap, subst, arith, geometry_of, FileKey, next_held, Store, bytes_with, last_generation}
 use Rattle.std.proofs.lemmas.Result.{err_from_is_err_and}
-use Rattle.file_store.specs.Refusals.{no_memory}
+use Rattle.snapshot_text.specs.Refusals.{no_memory}
 use Rattle.file_store.proofs.Ended.{ends_done, ends_err, lacking}
 use Rattle.meta_store.proofs.SnapshotFits.{name-short}
 use Rattle.inode_table.specs.Table.{next_key}

@@ -5,7 +5,7 @@ use Rattle.hsm_types.specs.declared.dm.DmRefusal.{DmRefusal}
 use Rattle.hsm_types.specs.Stubs.{any_unpunched}
 use Rattle.plain_model.specs.Effects.{Punches}
 use Rattle.plain_model.specs.Services.{kept_of}
-use Rattle.file_store.specs.declared.refusal.StoreRefusal.TheVariants as store
+use Rattle.snapshot_text.specs.declared.refusal.MetaRefusal.TheVariants.{Part}
 use Rattle.file_store.proofs.PunchEnds.{punch_end}
 use Rattle.std.proofs.lemmas.Result.{err_from_is_err_and}
 use Rattle.file_store.proofs.Ended.{ends_as, refused_first}
@@ -28,7 +28,7 @@ pub returns-in_err-punch : goal.returns-in_err-punch
 returns-in_err-punch g c =
     let at = (goal.at.returns-in_err-punch g c).After-max-end in
     let kept = kept_of c.args.key c.args.self.now.held.files in
-    let refused : (why : DmRefusal) → c.in_err-punch.field-0.0 ≡ store.Part why → any_unpunched kept.regions kept.stubs c.args.from c.max-end.result ≡ Some why =
+    let refused : (why : DmRefusal) → c.in_err-punch.field-0.0 ≡ Part why → any_unpunched kept.regions kept.stubs c.args.from c.max-end.result ≡ Some why =
     λ why is. rw (c.inode-ino.ensures.kept, ← c.self.view_is, ← c.catalog.ensures.catalog) (c.in_err-punch.ensures.refused why (ap (λ e. Err e) is)) in
     let p = err_from_is_err_and c.from_residual.result c.from_residual.ensures.1 in
     rw (p.1, p.2) record {

@@ -1,5 +1,5 @@
-use Rattle.file_store.proofs.Names.{rules, Err, ◌≡◌, refl, sym, ◌∙◌, ap, unmarked, after_all, held_with, held_after}
-use Rattle.file_store.specs.Refusals.{is_disk, no_memory}
+use Rattle.file_store.proofs.Names.{Err, refl, sym, ◌∙◌, ap, unmarked, after_all, held_with, held_after}
+use Rattle.snapshot_text.specs.Refusals.{no_memory}
 use Rattle.file_store.proofs.Durable.{Parts, IsDone, after_event}
 use Rattle.file_store.proofs.StoreEvents.{freed_low, recorded, refused_sound, refusal_alone}
 use Rattle.file_store.proofs.EventTexts.{few_alone, few_fit}
@@ -50,8 +50,7 @@ returns-in-Ok-clause-ends g c =
 pub invariant_of-self-in-Err : goal.invariant_of-self-in-Err
 invariant_of-self-in-Err g c =
     let working = ap (λ s. s.failed) c.self.view_is ∙ c.requires.working in
-    let failed : c.eq-self-inside.result ≡ is_disk c.in-Err.refusal = search rules in
-    rw (c.in-Err.ensures.err, failed) (
+    rw (c.in-Err.ensures.err, c.is_disk-self-inside.ensures) (
       c.self.invariant.0,
       refused_sound g.D.Disk _ c.apply.new.disk _ c.in-Err.refusal c.self.invariant.1 working
           (λ why is. (refl, c.in-Err.ensures.unwritten why (ap (λ e. Err e) is))) (λ is. (refl, c.in-Err.ensures.memory (ap (λ e. Err e) is))),
@@ -60,9 +59,8 @@ invariant_of-self-in-Err g c =
 pub returns-clause-ends : goal.returns-clause-ends
 returns-clause-ends g c =
     let working = ap (λ s. s.failed) c.self.view_is ∙ c.requires.working in
-    let failed : c.eq-self-inside.result ≡ is_disk c.in-Err.refusal = search rules in
     let alone = refusal_alone _ c.args.change c.self.inside.meta.current c.in_ok-records.ensures in
-    rw (c.in-Err.ensures.err, failed, c.from.ensures, ← c.self.view_is)
+    rw (c.in-Err.ensures.err, c.is_disk-self-inside.ensures, ← c.self.view_is)
     (kept_ends g.D.Disk (parts g (goal.at.returns-clause-ends g c).After-apply) c.apply.new.disk c.args.number _ c.apply.result c.in-Err.refusal c.self.invariant.1 working c.in-Err.is c.apply.ensures.any_moment
     (λ part is. (alone ∙ (c.apply.ensures.refused part).0 is, c.apply.ensures.unwritten part is)) c.apply.ensures.faults)
 

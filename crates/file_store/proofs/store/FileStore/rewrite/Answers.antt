@@ -13,7 +13,7 @@ use Rattle.std.proofs.lemmas.Option.{same_Some}
 use Rattle.file_store.proofs.StoreEvents.{Given, known, body_of, bytes_in, IsBack, bodies_back, within, lengths_then, passes, fits, stand}
 use Rattle.file_store.proofs.StoreEvents.{places_within, freed_within, undone, written_proceeds, written_live, refused_proceeds, rewritten}
 use Rattle.file_store.proofs.StoreEvents.{refused_sound}
-use Rattle.file_store.specs.Refusals.{no_memory}
+use Rattle.snapshot_text.specs.Refusals.{no_memory}
 use Rattle.file_store.proofs.Ended.{ends_done, ends_refused, refused_first}
 use Rattle.file_store.proofs.store.FileStore.rewrite.Given.{Over}
 use Rattle.file_store.proofs.store.FileStore.rewrite.Goals.{After-of-before, After-stage, In-Ok, After-apply-in-Ok-apply, After-undo}
@@ -89,7 +89,7 @@ back g c alike =
 pub invariant_of-self : goal.invariant_of-self
 invariant_of-self g c =
     let at = goal.at.invariant_of-self g c in
-    let failed = c.refused.ensures.failed in
+    let failed = c.is_disk-self-inside.ensures in
     let same = back g at.After-stage c.in-Err.ensures.err in
     rw (same.1, failed) (
       same.0,
@@ -100,10 +100,10 @@ invariant_of-self g c =
 pub returns-in-Err : goal.returns-in-Err
 returns-in-Err g c =
     let at = goal.at.returns-in-Err g c in
-    rw (c.refused.ensures.refusal, ← c.self.view_is) record {
+    rw (← c.self.view_is) record {
       changed = record {
         held = tt;
-        ends = ends_refused g.D.Disk _ _ c.args.number None (written_proceeds (given g at.After-of-before) (moments g at.After-stage) c.args.number _ _ _) c.stage.result c.in-Err.refusal c.in-Err.is c.refused.ensures.failed
+        ends = ends_refused g.D.Disk _ _ c.args.number None (written_proceeds (given g at.After-of-before) (moments g at.After-stage) c.args.number _ _ _) c.stage.result c.in-Err.refusal c.in-Err.is c.is_disk-self-inside.ensures
             (λ part is. absurd (c.stage.ensures.no_part part is)) (λ is. (back g at.After-stage c.in-Err.ensures.err).1) c.stage.ensures.faults;
       };
     }
@@ -231,7 +231,7 @@ invariant_of-self-in-Err-apply g c =
     let at = goal.at.invariant_of-self-in-Err-apply g c in
     let sound = c.self.invariant.1 in
     let body = bytes_in c.self.inside.bodies.items c.args.key in
-    let failed = c.refused-in-Err-apply.ensures.failed in
+    let failed = c.is_disk-self-inside-in-Err-apply.ensures in
     let same = back_again g at.After-undo in
     rw (c.in-Err-apply.ensures.err, same.1, c.release_all-in-Err-apply.ensures, c.as_slice.ensures.value, c.in-Ok.ensures.places, space_is g at.In-Ok, bytes_are g at.After-stage, undone c.self.inside.space (length (touched_of c.args.change body)), failed) (
       same.0,
@@ -245,11 +245,11 @@ returns-in-Err-apply g c =
     let at = goal.at.returns-in-Err-apply g c in
     let x = given g at.After-of-before in
     let none = passes x ((staged g at.In-Ok).rewriting x.at.file x.at.found) in
-    rw (c.in-Err-apply.ensures.err, c.refused-in-Err-apply.ensures.refusal, ← c.self.view_is) record {
+    rw (c.in-Err-apply.ensures.err, ← c.self.view_is) record {
       changed = record {
         held = tt;
         ends = ends_refused g.D.Disk _ _ c.args.number None (refused_proceeds x (moments g at.After-stage) (staged g at.In-Ok) c.args.number _ c.apply.ensures.any_moment refl refl) c.apply.result c.in-Err-apply.refusal c.in-Err-apply.is
-            c.refused-in-Err-apply.ensures.failed (λ part is. absurd (let some = (c.apply.ensures.refused part).0 is in cc)) (λ is. (back_again g at.After-undo).1) (rw (c.stage.ensures.faults.quiet (λ e. cc)) at c.apply.ensures.faults);
+            c.is_disk-self-inside-in-Err-apply.ensures (λ part is. absurd (let some = (c.apply.ensures.refused part).0 is in cc)) (λ is. (back_again g at.After-undo).1) (rw (c.stage.ensures.faults.quiet (λ e. cc)) at c.apply.ensures.faults);
       };
     }
 

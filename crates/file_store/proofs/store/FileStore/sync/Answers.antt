@@ -1,5 +1,5 @@
-use Rattle.file_store.proofs.Names.{◌≡◌, None, rules, true, refl, sym, ◌∙◌, ap, arith, held_at, held_with, marks_of}
-use Rattle.file_store.specs.Refusals.{is_disk, no_memory}
+use Rattle.file_store.proofs.Names.{None, true, refl, sym, ◌∙◌, ap, arith, held_at, held_with, marks_of}
+use Rattle.snapshot_text.specs.Refusals.{no_memory}
 use Rattle.file_store.proofs.Durable.{Parts, IsDone, after_event, done, stored_meta}
 use Rattle.file_store.proofs.Ended.{ends_done, kept_ends, refused_first}
 use Rattle.file_store.proofs.Marks.{marks_there}
@@ -38,8 +38,7 @@ returns-in-Ok-clause-room g c =
 pub returns-in-Err-clause-ends : goal.returns-in-Err-clause-ends
 returns-in-Err-clause-ends g c =
     let working = ap (λ s. s.failed) c.self.view_is ∙ c.requires.working in
-    let failed : c.eq-self-inside.result ≡ is_disk c.in-Err.refusal = search rules in
-    rw (c.in-Err.ensures.err, failed, c.from.ensures, ← c.self.view_is)
+    rw (c.in-Err.ensures.err, c.is_disk-self-inside.ensures, ← c.self.view_is)
     (kept_ends g.D.Disk (parts g (goal.at.returns-in-Err-clause-ends g c).After-commit) c.commit.new.disk c.args.number None c.commit.result c.in-Err.refusal c.self.invariant.1 working c.in-Err.is c.commit.ensures.any_moment
     (λ part is. absurd (c.commit.ensures.no_part part is)) c.commit.ensures.faults)
 
