@@ -28,7 +28,7 @@ use Rattle.plain_model.specs.declared.entries.Action.TheVariants.{Dm}
 use Rattle.plain_model.specs.declared.entries.Actor.TheVariants.{Session}
 use Rattle.plain_model.specs.declared.entries.Answer.TheVariants.{Dm as Told}
 use Rattle.plain_model.specs.declared.entries.Entry.{Entry}
-use Rattle.plain_model.specs.Exact.{ExactSeen, state_by}
+use Rattle.plain_model.specs.Exact.{ExactSeen}
 use Rattle.plain_model.specs.State.{Held, State, just_opened}
 use Rattle.hsm_policy.specs.Settings.{Numbers}
 use Rattle.daemon_session.specs.declared.events.Kept.{Kept}
@@ -45,7 +45,6 @@ use Rattle.marked_history.proofs.Causing.{no_fault}
 use Rattle.marked_history.proofs.Lists.{place, none_there}
 use Rattle.marked_history.proofs.Remembering.{changed_kept}
 use Rattle.deeds.specs.Deeds.{Deed, Enters, entry_in, entries_of, entry_of, call_told, Fits, IsOf, NamesNoFault}
-use Rattle.deeds.specs.Leads.{Situation, nothing_done, Leads}
 use Rattle.deeds.specs.Lives.{Living, Move, Begins, Ends, Renews, Asks, Learns, Fails, Misses, hearing, move_of, deed_by, MovesTo}
 use Rattle.deeds.proofs.Living.{entries_then}
 use Rattle.hsm_system.specs.Lives as lives
@@ -178,7 +177,7 @@ module _ (s : Superblock) (st : State) where
   gives_cause : (es : List Entry) (k : recalls.Known) (asked : Act) (told : Heard) (given : Act) → KnownBy es k → (told ≡ Nothing) ⊎ Fits asked told → recalls.MayGive k asked told given → IsCause es given
   gives_cause es k asked told (act.Dm x (call.Respond t (Media fault))) is fits may =
       let fetched = may.1.3 in
-      cause_of s st es k x t fault is (may.0, (may.1.0, may.1.1, may.1.2, (fetched.0, fetched.3, named_by asked told fetched.0.entry fault fetched.1 fetched.2 fits)))
+      cause_of s st es k x t fault may.1.0 fetched.0 is may.0.session may.1.1 may.1.2 fetched.3 (named_by asked told fetched.0.entry fault fetched.1 fetched.2 fits)
   gives_cause es k asked told given is fits may = tt
 
   record Knows (es : List Entry) (r : Living recall.Machine) : Type 0 where

@@ -3,13 +3,9 @@ use Rattle.std.proofs.Common.{◌≡◌, ◌∙◌, ℕ, ◌≤◌, true, false,
 use Rattle.std.proofs.lemmas.Bool.{false≢true}
 use Rattle.std.proofs.lemmas.List.Elements.{All-nil, All-weaker, All-contains}
 use Rattle.std.specs.Prelude.{Contains}
-use Rattle.hsm_types.specs.Daemons.{kinds_of}
-use Rattle.hsm_types.specs.Messages.{takes}
-use Rattle.hsm_types.specs.declared.daemons.Act.{Act}
 use Rattle.hsm_types.specs.declared.daemons.Act.TheVariants as act
 use Rattle.hsm_types.specs.declared.daemons.Daemon.{Daemon}
 use Rattle.hsm_types.specs.declared.daemons.Daemon.TheVariants.{Recall, Migrate}
-use Rattle.hsm_types.specs.declared.daemons.Heard.{Heard}
 use Rattle.hsm_types.specs.declared.daemons.Heard.TheVariants as heard
 use Rattle.hsm_types.specs.declared.dm.DmCall.TheVariants.{RequestRight}
 use Rattle.hsm_types.specs.declared.dm.DmReply.TheVariants.{Done}
@@ -25,24 +21,23 @@ use Rattle.plain_model.specs.State.{Held, State, just_opened}
 use Rattle.plain_model.specs.Stands.{InOrder}
 use Rattle.plain_model.specs.Exact.{state_by}
 use Rattle.hsm_policy.specs.Settings.{Numbers}
-use Rattle.daemon_session.specs.declared.events.Event.{Event}
 use Rattle.daemon_session.specs.declared.events.Kept.{Kept}
 use Rattle.daemon_session.specs.Seats.{Seat}
 use Rattle.migrate_daemon.specs.Machine as migrate
 use Rattle.recall_daemon.specs.Machine as recall
 use Rattle.marked_history.specs.Served.{IsTold}
-use Rattle.marked_history.specs.Tokens.{IsPresent, Tells, TellsOn}
+use Rattle.marked_history.specs.Tokens.{IsPresent, Tells}
 use Rattle.marked_history.proofs.Carrying.{none_each}
 use Rattle.marked_history.proofs.Lists.{none_there, place}
 use Rattle.marked_history.proofs.TellingOne.{Register, unknown, IsListed, IsRegister, Next, seen_next, IsEventOf, IsKeptOf, IsFileOf, event_next, file_next}
-use Rattle.marked_history.proofs.TellingOne.{tells_only, event_tells, file_tells}
+use Rattle.marked_history.proofs.TellingOne.{tells_only, file_told, event_tells, file_tells}
 use Rattle.deeds.specs.Deeds.{Deed, Enters, Hears, entry_in, entries_of}
 use Rattle.deeds.specs.Leads.{Situation, nothing_done, Leads}
 use Rattle.deeds.specs.Lives.{Workings, Living, Move, Begins, Learns, deed_by, hearing, MovesTo}
 use Rattle.hsm_system.specs.Lives.{recalls, migrates}
 use Rattle.deed_laws.specs.Knowing.{seat_behind}
-use Rattle.deed_laws.specs.Telling.{IsGranted, TellsOne, ServedTellsOne}
-use Rattle.deed_laws.proofs.Sitting.{HasGiven, Sits, Sound, IsSound, seat_now}
+use Rattle.deed_laws.specs.Telling.{IsGranted, ServedTellsOne}
+use Rattle.deed_laws.proofs.Sitting.{HasGiven, Sits, Sound, IsSound}
 use Rattle.deed_laws.proofs.Machines.{recall_sits, migrate_sits, seat_in, recall_behind, migrate_behind}
 use Rattle.deed_laws.proofs.Walking.{after, Happens, behind}
 use Rattle.deed_laws.proofs.Walking as walking
@@ -110,7 +105,7 @@ module _ {R : Type 0} (w : Workings R) (sits : Sits Recall w) (f : Register) (to
       let own : IsEventOf Recall f top told.0 = All-contains (IsKeptOf Recall f top) seat.kept (record { event = told.0; marked = told.1.0 }) keep told.1.1 in
       subst (λ (u : Token). IsFileOf f top u h.key) told.2 (record {
         within = own.within;
-        tells = record { told = told.0.handle; handle = own.handle; file = ap (λ (y : Handle). y.key) told.3; own = ap (takes (kinds_of Recall)) own.kind ∙ own.own };
+        tells = file_told f top told.0 h own told.3;
       })
 
   -- it had asked for it by an event that it keeps

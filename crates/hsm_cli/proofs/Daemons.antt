@@ -16,46 +16,72 @@ use Rattle.hsm_core.specs.Packed.{ArePacked}
 use Rattle.hsm_core.specs.Store.{Store as HsmStore}
 use Rattle.hsm_core.proofs.Packing.{packed_first}
 use Rattle.hsm_policy.specs.Settings.{Numbers, standard}
-use Rattle.marked_history.specs.Marks.{Mark, entries_of}
+use Rattle.deeds.specs.Deeds.{Deed, entries_of}
+use Rattle.deeds.specs.Leads as leading
+use Rattle.deed_laws.specs.Coming.{ServedMakesAnew, ServedTakesOver}
+use Rattle.marked_history.specs.Marks.{Mark}
+use Rattle.marked_history.specs.Marks as marking
 use Rattle.marked_history.specs.Served.{Shown, nothing_shown, learned, ServedFrom, Served}
-use Rattle.marked_history.specs.Coming.{ServedMakesAnew, ServedTakesOver}
 use Rattle.marked_history.specs.Freeing.{PunchFrees}
 use Rattle.marked_history.specs.Tokens.{ServedKeepsAll}
+use Rattle.marked_history.proofs.Lists.{none_there}
 use Rattle.hsm_system.specs.Events.{GoesOn}
-use Rattle.hsm_cli.specs.Daemons.{IsWellServed, IsWellServedOver, ServedIsWell}
+use Rattle.hsm_system.specs.Lives.{recalls, migrates}
+use Rattle.hsm_cli.specs.Daemons.{IsWellServed, IsWellServedOver, ServedIsWell, KeepsThroughout, KeepsThroughoutOver, ServedKeepsThroughout}
+
+-- nothing was done
+pub none_well : (s : Superblock) (base : ℕ) (h : Held) → IsWellServed s base h []
+none_well s base h = record {
+  anew = λ before daemon sid info rest is. absurd (none_there before _ rest is);
+  over = λ before daemon sid old info rest taken is. absurd (none_there before _ rest is);
+  frees = λ before sid t handle offset len rest is. absurd (none_there before _ rest is);
+}
+
+-- ---- by deeds
+
+-- the laws over deeds that are served
+pub record Laws : Type 0 where
+  pub anew : (limits : Numbers) (s : Superblock) (base : ℕ) (h : Held) (deeds : List Deed) → ServedMakesAnew limits s base h deeds
+  pub over : (limits : Numbers) (deeds : List Deed) → ServedTakesOver limits deeds
+  pub frees : (s : Superblock) (base : ℕ) (h : Held) (es : List Entry) → PunchFrees s base h es
+
+well_served : Laws → (s : Superblock) (base : ℕ) (h : Held) (history : List Entry) → IsRunSeen ⊥ s base h history → (deeds : List Deed) → entries_of deeds ≡ history → leading.Served recalls (migrates standard) deeds → IsWellServed s base h deeds
+well_served laws s base h history run deeds same served =
+    let is_run : IsRunSeen ⊥ s base h (entries_of deeds) = subst (λ (es : List Entry). IsRunSeen ⊥ s base h es) (sym same) run in
+    record { anew = laws.anew standard s base h deeds served is_run; over = laws.over standard deeds served; frees = laws.frees s base h (entries_of deeds) is_run }
+
+-- on a store that was just opened
+pub run_is_well : {D : Type 0} → Laws → (g : disk.Ghosts D) (old new : HsmStore D) → GoesOn g old new → IsKept g new → ServedIsWell (Some old.opened) new.history
+run_is_well {D = D} laws g old new goes kept deeds same served =
+    subst (λ (o : Store D). IsWellServedOver (Some o) deeds) goes.opened
+    (well_served laws (superblock_of new.opened) new.opened.meta.number new.opened.held new.history
+    (run_on_any (Tells g new.files.disk) (superblock_of new.opened) new.opened.meta.number new.opened.held new.history kept.run) deeds same served)
+
+-- ---- by marks
 
 served_first : (limits : Numbers) (k : Shown) (first rest : List Mark) → ServedFrom limits k (first ++ rest) → ServedFrom limits k first
 served_first limits k [] rest served = tt
 served_first limits k (m ∷ first) rest served = (served.0, served_first limits (learned limits k m) first rest served.1)
 
--- the laws over served runs
-pub record Laws : Type 0 where
-  pub anew : (limits : Numbers) (s : Superblock) (base : ℕ) (h : Held) (marks : List Mark) (es : List Entry) → ServedMakesAnew limits s base h marks es
-  pub over : (limits : Numbers) (marks : List Mark) → ServedTakesOver limits marks
-  pub keeps : (daemon : Daemon) (limits : Numbers) (s : Superblock) (base : ℕ) (h : Held) (marks : List Mark) (es : List Entry) → ServedKeepsAll daemon limits s base h marks es
-  pub frees : (s : Superblock) (base : ℕ) (h : Held) (es : List Entry) → PunchFrees s base h es
+-- of whatever a daemon keeps
+abbrev pub Keeping : Type 0
+Keeping = (daemon : Daemon) (limits : Numbers) (s : Superblock) (base : ℕ) (h : Held) (marks : List Mark) (es : List Entry) → ServedKeepsAll daemon limits s base h marks es
 
-module _ (laws : Laws) (s : Superblock) (base : ℕ) (h : Held) where
+module _ (law : Keeping) (s : Superblock) (base : ℕ) (h : Held) where
   -- a beginning of a run is one
   run_first : (first rest : List Entry) → IsRunSeen ⊥ s base h (first ++ rest) → IsRunSeen ⊥ s base h first
   run_first first rest run = record { opening = run.opening; exact = ExactSeen-first ⊥ s (just_opened base h) first rest run.exact }
 
-  well_served : (history : List Entry) → IsRunSeen ⊥ s base h history → ArePacked s (just_opened base h) history → (marks : List Mark) → entries_of marks ≡ history → Served standard marks → IsWellServed s base h marks
-  well_served history run packed marks same served = record {
-    anew = laws.anew standard s base h marks history same served run;
-    over = laws.over standard marks served;
-    keeps = λ daemon first rest parted.
-        let both : history ≡ entries_of first ++ entries_of rest = sym same ∙ ap entries_of parted ∙ map-append (λ (m : Mark). m.entry) first rest in
-        laws.keeps daemon standard s base h first (entries_of first) refl
-        (served_first standard nothing_shown first rest (subst (ServedFrom standard nothing_shown) parted served))
-        (run_first (entries_of first) (entries_of rest) (subst (λ (es : List Entry). IsRunSeen ⊥ s base h es) both run))
-        (packed_first s (just_opened base h) (entries_of first) (entries_of rest) (subst (λ (es : List Entry). ArePacked s (just_opened base h) es) both packed));
-    frees = laws.frees s base h (entries_of marks) (subst (λ (es : List Entry). IsRunSeen ⊥ s base h es) (sym same) run);
-  }
+  keeps_throughout : (history : List Entry) → IsRunSeen ⊥ s base h history → ArePacked s (just_opened base h) history → (marks : List Mark) → marking.entries_of marks ≡ history → Served standard marks → KeepsThroughout s base h marks
+  keeps_throughout history run packed marks same served daemon first rest parted =
+      let both : history ≡ marking.entries_of first ++ marking.entries_of rest = sym same ∙ ap marking.entries_of parted ∙ map-append (λ (m : Mark). m.entry) first rest in
+      law daemon standard s base h first (marking.entries_of first) refl
+      (served_first standard nothing_shown first rest (subst (ServedFrom standard nothing_shown) parted served))
+      (run_first (marking.entries_of first) (marking.entries_of rest) (subst (λ (es : List Entry). IsRunSeen ⊥ s base h es) both run))
+      (packed_first s (just_opened base h) (marking.entries_of first) (marking.entries_of rest) (subst (λ (es : List Entry). ArePacked s (just_opened base h) es) both packed))
 
--- on a store that was just opened
-pub run_is_well : {D : Type 0} → Laws → (g : disk.Ghosts D) (old new : HsmStore D) → GoesOn g old new → IsKept g new → ServedIsWell (Some old.opened) new.history
-run_is_well {D = D} laws g old new goes kept marks same served =
-    subst (λ (o : Store D). IsWellServedOver (Some o) marks) goes.opened
-    (well_served laws (superblock_of new.opened) new.opened.meta.number new.opened.held new.history
+pub run_keeps : {D : Type 0} → Keeping → (g : disk.Ghosts D) (old new : HsmStore D) → GoesOn g old new → IsKept g new → ServedKeepsThroughout (Some old.opened) new.history
+run_keeps {D = D} law g old new goes kept marks same served =
+    subst (λ (o : Store D). KeepsThroughoutOver (Some o) marks) goes.opened
+    (keeps_throughout law (superblock_of new.opened) new.opened.meta.number new.opened.held new.history
     (run_on_any (Tells g new.files.disk) (superblock_of new.opened) new.opened.meta.number new.opened.held new.history kept.run) kept.packed marks same served)

@@ -24,12 +24,14 @@ use Rattle.hsm_cli.specs.declared.causes.Cause.{Cause}
 use Rattle.hsm_cli.specs.declared.causes.Cause.TheVariants.{ScriptRefused, WordsRefused, NotStore, Corrupt, ReadFault, WriteFault, DiskFault}
 use Rattle.hsm_cli.specs.declared.causes.Cause.TheVariants.{HostFault, NoMemory}
 use Rattle.hsm_cli.specs.declared.outcomes.Outcome.{Outcome}
+use Rattle.hsm_cli.specs.Daemons.{IsWellServed, IsWellServedOver}
 use Rattle.hsm_cli.specs.Deeds.{AreAll, AreDone, DeedsClause, DrivesInMemory, DrivesWent, HasDone, HaveGone, MayGoOnOver, RunHasDone, without_objects}
 use Rattle.hsm_cli.specs.Endings.{IsBeforeReading, ScriptEnds, WritingEnds, cause_in}
 use Rattle.hsm_cli.specs.Openings.{replay_store}
 use Rattle.hsm_cli.specs.Outcomes.{ended_with}
 use Rattle.hsm_cli.specs.Statuses.{cause_of_host, cause_of_refusal}
 use Rattle.hsm_cli.specs.Told.{SinkTold, SourceTold}
+use Rattle.hsm_cli.proofs.Daemons.{none_well}
 use Rattle.hsm_cli.proofs.Doing.{idle_done, none_done, wanting}
 use Rattle.hsm_cli.proofs.Drives.{handed_since}
 
@@ -62,7 +64,8 @@ module _ {D M : Type 0} (AreTheLines : List Line → Type 0) where
   pub unopened_done : (GoSo : Outcome D M → List Deed → Type 0) (o : Outcome D M) (why : Cause) (disk : Option D) → why ≢ WriteFault → GoSo (ended_with (Some why) [] disk) [] → o ≡ ended_with (Some why) [] disk → RunHasDone standard AreTheLines (GoSo o) o
   unopened_done GoSo o why disk other goes is =
       subst (λ (x : Outcome D M). RunHasDone standard AreTheLines (GoSo x) x) (sym is)
-      (none_done (AreDone (MayGoOnOver {D = D} None) AreTheLines (Some why)) (GoSo (ended_with (Some why) [] disk)) [] refl (idle_done (MayGoOnOver {D = D} None) AreTheLines why other) goes)
+      (none_done (AreDone (MayGoOnOver {D = D} None) AreTheLines (Some why)) (λ deeds. IsWellServedOver {D = D} None deeds × GoSo (ended_with (Some why) [] disk) deeds) [] refl (idle_done (MayGoOnOver {D = D} None) AreTheLines why other)
+      (none_well _ _ _, goes))
 
 -- ---- drives of the host
 
@@ -84,9 +87,17 @@ pub may_new : (D E : Type 0) (s : Store D) → superblock_of s ≡ replay_store 
 may_new D E s superblock held number =
     ap (λ (x : Superblock). MayGoOnBehind x (just_opened s.meta.number s.held)) superblock ∙ ap (λ (n : ℕ). MayGoOnBehind replay_store (just_opened n s.held)) number ∙ ap (λ (x : HeldFiles). MayGoOnBehind replay_store (just_opened 0 x)) held
 
+-- and it is well served likewise
+well_new : (D E : Type 0) (s : Store D) → superblock_of s ≡ replay_store → s.held ≡ nothing_held → s.meta.number ≡ 0 → IsWellServedOver (Some s) ≡ IsWellServedOver {D = E} None
+well_new D E s superblock held number =
+    ap (λ (x : Superblock). IsWellServed x s.meta.number s.held) superblock ∙ ap (λ (n : ℕ). IsWellServed replay_store n s.held) number ∙ ap (λ (x : HeldFiles). IsWellServed replay_store 0 x) held
+
 pub done_new : (D E : Type 0) (s : Store D) (AreTheLines : List Line → Type 0) (cause : Option Cause) (GoSo : List Deed → Type 0) (history : List Entry) → superblock_of s ≡ replay_store → s.held ≡ nothing_held → s.meta.number ≡ 0
-    → HasDone standard (AreDone (MayGoOnOver (Some s)) AreTheLines cause) GoSo history → HasDone standard (AreDone (MayGoOnOver {D = E} None) AreTheLines cause) GoSo history
-done_new D E s AreTheLines cause GoSo history superblock held number done = subst (λ (May : List Entry → ℕ → Type 0). HasDone standard (AreDone May AreTheLines cause) GoSo history) (may_new D E s superblock held number) done
+    → HasDone standard (AreDone (MayGoOnOver (Some s)) AreTheLines cause) (λ deeds. IsWellServedOver (Some s) deeds × GoSo deeds) history
+    → HasDone standard (AreDone (MayGoOnOver {D = E} None) AreTheLines cause) (λ deeds. IsWellServedOver {D = E} None deeds × GoSo deeds) history
+done_new D E s AreTheLines cause GoSo history superblock held number done =
+    subst (λ (IsWell : List Deed → Type 0). HasDone standard (AreDone (MayGoOnOver {D = E} None) AreTheLines cause) (λ deeds. IsWell deeds × GoSo deeds) history) (well_new D E s superblock held number)
+    (subst (λ (May : List Entry → ℕ → Type 0). HasDone standard (AreDone May AreTheLines cause) (λ deeds. IsWellServedOver (Some s) deeds × GoSo deeds) history) (may_new D E s superblock held number) done)
 
 -- ---- a drill
 
@@ -113,9 +124,9 @@ module _ (MayGo : List Entry → ℕ → Type 0) (AreTheLines : List Line → Ty
 
 module _ (D : Type 0) {M : Type 0} (g : drive.Ghosts M) where
   pub deeds_wanting : (stores : List ℕ → ℕ → Objects → Type 0) (form : Option Form) (source : SourceTold) → DeedsClause {D = D} g stores form source (ended_with (Some NoMemory) [] None)
-  deeds_wanting stores (Some Replay) source = none_done _ (DrivesInMemory standard) [] refl (inl refl) (inl refl)
-  deeds_wanting stores (Some (ReplayStore path dir)) source = none_done _ (DrivesWent g standard (stores dir) []) [] refl (inl refl) (inl (refl, refl))
-  deeds_wanting stores (Some (Drill number)) source = none_done _ (DrivesInMemory standard) [] refl (inl refl) (inl refl)
+  deeds_wanting stores (Some Replay) source = none_done _ (λ deeds. IsWellServedOver {D = D} None deeds × DrivesInMemory standard deeds) [] refl (inl refl) (none_well _ _ _, inl refl)
+  deeds_wanting stores (Some (ReplayStore path dir)) source = none_done _ (λ deeds. IsWellServedOver {D = D} None deeds × DrivesWent g standard (stores dir) [] deeds) [] refl (inl refl) (none_well _ _ _, inl (refl, refl))
+  deeds_wanting stores (Some (Drill number)) source = none_done _ (λ deeds. IsWellServedOver {D = D} None deeds × DrivesInMemory standard deeds) [] refl (inl refl) (none_well _ _ _, inl refl)
   deeds_wanting stores (Some (Format path size)) source = tt
   deeds_wanting stores (Some (Show path)) source = tt
   deeds_wanting stores (Some (ShowVolumes path dir)) source = tt

@@ -31,6 +31,7 @@ use Rattle.hsm_replay.proofs.PartsDone.{follows_on}
 use Rattle.hsm_cli.specs.declared.causes.Cause.{Cause}
 use Rattle.hsm_cli.specs.declared.causes.Cause.TheVariants.{ScriptRefused, WordsRefused, NotStore, Corrupt, ReadFault, WriteFault, DiskFault}
 use Rattle.hsm_cli.specs.declared.causes.Cause.TheVariants.{HostFault, NoMemory}
+use Rattle.hsm_cli.specs.Daemons.{IsWellServedOver, ServedIsWell}
 use Rattle.hsm_cli.specs.Deeds.{AreCutIn, AreDone, AreFirst, AreOfLines, HasDone, HaveGone, MayGoOnOver}
 use Rattle.hsm_cli.specs.Endings.{WritingEnds, cause_in, first_of}
 use Rattle.hsm_cli.specs.Follows.{lines_run}
@@ -103,7 +104,7 @@ module _ {D M : Type 0} (h : drive.Ghosts M) (from s : Run D M) (is_ready : IsRe
   gone deeds runs = record { went = runs.drives; so = runs.so; apart = faults_apart (length from.drives) deeds (counts_of h from.drives) (counts_of h s.drives) runs.faults }
 
   has_done : (FollowsSo : List Deed → Type 0) (deeds : List Deed) → RunsBy h deeds from s → FollowsSo deeds → HasDone standard FollowsSo (λ done. HaveGone h from.drives done s.drives) s.system.store.history
-  has_done FollowsSo deeds runs follows = record { deeds = deeds; entries = made deeds runs; served = is_served deeds runs; follows = follows; drives = gone deeds runs }
+  has_done FollowsSo deeds runs follows = record { deeds = deeds; entries = made deeds runs; served = is_served deeds runs; follows = follows; so = gone deeds runs }
 
   is_over : MayGoOn from.system.store ≡ MayGoOnOver (Some from.system.store.opened)
   is_over = may_over from.system.store is_ready.store.working
@@ -143,7 +144,7 @@ nothing_leads : Served recalls (migrates standard) []
 nothing_leads = (nothing_done, record { entries = refl; recall = refl; migrate = refl; right = All-nil IsRight })
 
 pub none_done : (FollowsSo GoSo : List Deed → Type 0) (history : List Entry) → history ≡ [] → FollowsSo [] → GoSo [] → HasDone standard FollowsSo GoSo history
-none_done FollowsSo GoSo history none follows goes = record { deeds = []; entries = sym none; served = nothing_leads; follows = follows; drives = goes }
+none_done FollowsSo GoSo history none follows goes = record { deeds = []; entries = sym none; served = nothing_leads; follows = follows; so = goes }
 
 pub none_gone : {M : Type 0} (h : drive.Ghosts M) (drives now : List M) → now ≡ drives → HaveGone h drives [] now
 none_gone {M = M} h drives now same = subst (λ (ds : List M). HaveGone h drives [] ds) (sym same) (nothing_goes h drives)
@@ -192,4 +193,8 @@ module _ (MayGo : List Entry → ℕ → Type 0) (AreTheLines : List Line → Ty
 
 -- the same deeds, of which another thing is so too
 pub done_as : (limits : Numbers) (FollowsSo FollowsToo GoSo GoToo : List Deed → Type 0) (history : List Entry) → ((deeds : List Deed) → FollowsSo deeds → FollowsToo deeds) → ((deeds : List Deed) → GoSo deeds → GoToo deeds) → HasDone limits FollowsSo GoSo history → HasDone limits FollowsToo GoToo history
-done_as limits FollowsSo FollowsToo GoSo GoToo history follows goes done = record { deeds = done.deeds; entries = done.entries; served = done.served; follows = follows done.deeds done.follows; drives = goes done.deeds done.drives }
+done_as limits FollowsSo FollowsToo GoSo GoToo history follows goes done = record { deeds = done.deeds; entries = done.entries; served = done.served; follows = follows done.deeds done.follows; so = goes done.deeds done.so }
+
+-- and are well served
+pub also_well : {D : Type 0} (opened : Option (FileStore D)) (FollowsSo GoSo : List Deed → Type 0) (history : List Entry) → ServedIsWell opened history → HasDone standard FollowsSo GoSo history → HasDone standard FollowsSo (λ deeds. IsWellServedOver opened deeds × GoSo deeds) history
+also_well opened FollowsSo GoSo history well done = record { deeds = done.deeds; entries = done.entries; served = done.served; follows = done.follows; so = (well done.deeds done.entries done.served, done.so) }

@@ -25,7 +25,7 @@ use Rattle.hsm_cli.specs.declared.causes.Cause.TheVariants.{HostFault, NoMemory}
 use Rattle.hsm_cli.specs.declared.outcomes.Outcome.{Outcome}
 use Rattle.hsm_cli.specs.Statuses.{status_of, place_of}
 use Rattle.hsm_cli.specs.Told.{SourceTold, SinkTold, HostTold}
-use Rattle.hsm_cli.specs.Daemons.{IsWellServedOver, ServedIsWell}
+use Rattle.hsm_cli.specs.Daemons.{KeepsThroughoutOver, ServedKeepsThroughout}
 use Rattle.hsm_cli.specs.Follows.{RunsBy, FollowsFirst, IsRunOf, DrillsAll, DrillsFirst, SettlesOn}
 use Rattle.hsm_cli.specs.Sealing.{TellsOf, IsRightInMemory}
 use Rattle.hsm_cli.specs.Endings.{cause_in, WritingEnds, LinesEnd}
@@ -100,9 +100,9 @@ module _ (Settles : List Line → List Mark → Type 0) (Tells : List Mark → T
 
 -- what a run of lines says is so of the drill that has these
 module _ {D M : Type 0} (g : drive.Ghosts M) (opened : Store D) (given left : List M) (whole : (opened drives : List M) (limits : Numbers) (marks : List Mark) → Tallies g opened drives limits marks → SealsAreWhole g marks) (sure : g.sure ≡ true)
-    (law : (d : M) (v : ℕ) → g.has d v ≡ true → (o : Objects) × g.gives d v o) (number : ℕ) (lines : List Line) (history : List Entry) (is : lines ≡ drill_lines number) (well : ServedIsWell (Some opened) history) where
+    (law : (d : M) (v : ℕ) → g.has d v ≡ true → (o : Objects) × g.gives d v o) (number : ℕ) (lines : List Line) (history : List Entry) (is : lines ≡ drill_lines number) (well : ServedKeepsThroughout (Some opened) history) where
   abbrev Right : List Mark → Type 0
-  Right marks = IsWellServedOver (Some opened) marks × IsRightInMemory marks
+  Right marks = KeepsThroughoutOver (Some opened) marks × IsRightInMemory marks
 
   says : (FollowsSo : List Line → List Mark → Type 0) → IsRunOf (FollowsSo lines) (TellsOf g given left) history → IsRunOf (FollowsSo (drill_lines number)) Right history
   says FollowsSo run =

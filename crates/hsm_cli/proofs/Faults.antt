@@ -8,23 +8,28 @@ use Rattle.hsm_types.specs.declared.media.Fault.{Fault}
 use Rattle.hsm_types.specs.declared.media.Fault.TheVariants.{Failed, Damaged}
 use Rattle.hsm_types.specs.declared.stores.Superblock.{Superblock}
 use Rattle.plain_model.specs.declared.entries.Entry.{Entry}
-use Rattle.plain_model.specs.State.{Held, nothing_held, just_opened}
+use Rattle.plain_model.specs.Laws.{IsRunSeen}
+use Rattle.plain_model.specs.State.{Held, State, nothing_held, just_opened}
 use Rattle.plain_model.proofs.AnyDisk.{run_on_any}
 use Rattle.file_store.specs.Stores.{Store, superblock_of}
 use Rattle.disk_model.specs.declared.device.Disk as disk
 use Rattle.disk_model.specs.Moments.{Tells}
 use Rattle.hsm_core.specs.Kept.{IsKept}
+use Rattle.hsm_core.specs.Packed.{ArePacked}
 use Rattle.hsm_core.specs.Store.{Store as HsmStore}
 use Rattle.hsm_policy.specs.Settings.{Numbers, standard}
-use Rattle.marked_history.specs.Caused.{Caused, ServedIsCaused}
-use Rattle.marked_history.specs.Marks.{Mark}
+use Rattle.marked_history.specs.Caused.{Caused}
+use Rattle.deeds.specs.Deeds.{Deed, entries_of}
+use Rattle.deeds.specs.Leads.{Served}
+use Rattle.deed_laws.specs.Caused.{ServedIsCaused}
 use Rattle.hsm_system.specs.Events.{GoesOn}
+use Rattle.hsm_system.specs.Lives.{recalls, migrates}
 use Rattle.hsm_replay.specs.Drives.{HaveGrown}
 use Rattle.hsm_replay.specs.Faults.{faults_in, TellsFault, IsTrue, AreTrue}
 use Rattle.hsm_replay.proofs.Growing.{grown_count}
 use Rattle.hsm_cli.specs.declared.causes.Cause.{Cause}
 use Rattle.hsm_cli.specs.Openings.{replay_store}
-use Rattle.hsm_cli.specs.Follows.{IsServed}
+use Rattle.hsm_cli.specs.Deeds.{HasDone}
 use Rattle.hsm_cli.specs.Clauses.{IsDamage, NoneFailed, IsCausedOver}
 
 -- a history without entries names none
@@ -70,11 +75,21 @@ caused_new s history superblock held number caused =
 
 -- ---- a served run
 
+-- some deeds show the history to be served
+abbrev pub IsMade : List Entry → Type 0
+IsMade history = (deeds : List Deed) × (entries_of deeds ≡ history) × Served recalls (migrates standard) deeds
+
+pub made : {FollowsSo TheyAre : List Deed → Type 0} {history : List Entry} → HasDone standard FollowsSo TheyAre history → IsMade history
+made done = (done.deeds, done.entries, done.served)
+
 module _ {D : Type 0} (g : disk.Ghosts D) where
   -- what the history of a run on an opened store says of faults
-  pub caused_served : ((limits : Numbers) (s : Superblock) (base : ℕ) (opening : Held) (marks : List Mark) (history : List Entry) → ServedIsCaused limits s base opening marks history)
-      → (old new : HsmStore D) → GoesOn g old new → IsServed new.history → IsKept g new → IsCausedOver (Some old.opened) new.history
-  caused_served law old new goes served kept =
+  pub caused_served : ((limits : Numbers) (s : Superblock) (base : ℕ) (opening : Held) (deeds : List Deed) → ServedIsCaused limits s base opening deeds)
+      → (old new : HsmStore D) → GoesOn g old new → IsMade new.history → IsKept g new → IsCausedOver (Some old.opened) new.history
+  caused_served law old new goes (deeds, same, served) kept =
+      let s : Superblock = superblock_of new.opened in
+      let first : State = just_opened new.opened.meta.number new.opened.held in
+      let run : IsRunSeen ⊥ s new.opened.meta.number new.opened.held (entries_of deeds) = subst (λ (es : List Entry). IsRunSeen ⊥ s new.opened.meta.number new.opened.held es) (sym same) (run_on_any (Tells g new.files.disk) s new.opened.meta.number new.opened.held new.history kept.run) in
+      let packed : ArePacked s first (entries_of deeds) = subst (λ (es : List Entry). ArePacked s first es) (sym same) kept.packed in
       subst (λ (o : Store D). IsCausedOver (Some o) new.history) goes.opened
-      (law standard (superblock_of new.opened) new.opened.meta.number new.opened.held served.0 new.history served.1 served.2
-      (run_on_any (Tells g new.files.disk) (superblock_of new.opened) new.opened.meta.number new.opened.held new.history kept.run) kept.packed)
+      (subst (λ (es : List Entry). Caused s first es) same (law standard s new.opened.meta.number new.opened.held deeds served run packed))

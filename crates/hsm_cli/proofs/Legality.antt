@@ -14,11 +14,12 @@ use Rattle.seen_history.proofs.Goods.{seen_is_good}
 use Rattle.std.proofs.lemmas.Bool.{false≢true}
 use Rattle.disk_model.specs.declared.device.Disk as disk
 use Rattle.file_store.specs.Stores.{Store, superblock_of}
+use Rattle.hsm_core.specs.Packed.{ArePacked}
 use Rattle.hsm_cli.specs.Openings.{replay_store, superblock_at, held_at, base_of}
 use Rattle.hsm_cli.specs.Outcomes.{ended_with}
 use Rattle.hsm_cli.specs.declared.causes.Cause.{Cause}
 use Rattle.hsm_cli.specs.declared.outcomes.Outcome.{Outcome}
-use Rattle.hsm_cli.specs.Clauses.{TellsGiven, IsRunOver, IsGoodSeenOver, IsGoodOver, IsPlainOver, LegalityClause}
+use Rattle.hsm_cli.specs.Clauses.{TellsGiven, IsRunOver, IsPackedOver, IsGoodSeenOver, IsGoodOver, IsPlainOver, LegalityClause}
 
 -- ---- exact runs
 
@@ -55,6 +56,12 @@ good_new s history superblock held number good =
     subst (λ (h : Held). IsGoodRun replay_store 0 h history) held
     (subst (λ (n : ℕ). IsGoodRun replay_store n s.held history) number (subst (λ (x : Superblock). IsGoodRun x s.meta.number s.held history) superblock good))
 
+-- so it is of its buffers
+pub packed_new : {D : Type 0} (s : Store D) (history : List Entry) → superblock_of s ≡ replay_store → s.held ≡ nothing_held → s.meta.number ≡ 0 → IsPackedOver (Some s) history → ArePacked replay_store (just_opened 0 nothing_held) history
+packed_new s history superblock held number packed =
+    subst (λ (h : Held). ArePacked replay_store (just_opened 0 h) history) held
+    (subst (λ (n : ℕ). ArePacked replay_store (just_opened n s.held) history) number (subst (λ (x : Superblock). ArePacked x (just_opened s.meta.number s.held) history) superblock packed))
+
 -- a run in which no store was opened has no events
 pub run_unopened : (D Told : Type 0) → IsRunOver {D = D} Told None []
 run_unopened D Told = record { opening = omega arith; exact = tt }
@@ -63,7 +70,7 @@ pub good_unopened : (D : Type 0) → IsGoodOver {D = D} None []
 good_unopened D = run_is_good replay_store 0 nothing_held [] (record { opening = omega arith; exact = tt })
 
 legal_unopened : {D M : Type 0} (g : disk.Ghosts D) (cause : Option Cause) (given : Option D) (drives : List M) → LegalityClause g (record (ended_with cause [] given) { drives = drives })
-legal_unopened {D} {M} g cause given drives = record { from = run_unopened D (TellsGiven g given); orderly = orderly _ _ _ _ _ (run_unopened D (TellsGiven g given)); seen = good_but_bytes {D = D} (TellsGiven g given) None [] (run_unopened D (TellsGiven g given)); good = λ tells. good_unopened D; caused = λ is. absurd (false≢true is); told = λ is some. absurd (false≢true some); faultless = λ sound ample. refl }
+legal_unopened {D} {M} g cause given drives = record { from = run_unopened D (TellsGiven g given); orderly = orderly _ _ _ _ _ (run_unopened D (TellsGiven g given)); packed = tt; seen = good_but_bytes {D = D} (TellsGiven g given) None [] (run_unopened D (TellsGiven g given)); good = λ tells. good_unopened D; caused = λ is. absurd (false≢true is); told = λ is some. absurd (false≢true some); faultless = λ sound ample. refl }
 
 pub legal_with : {D M : Type 0} (g : disk.Ghosts D) (o : Outcome D M) (cause : Option Cause) (given : Option D) (drives : List M) → o ≡ record (ended_with cause [] given) { drives = drives } → LegalityClause g o
 legal_with {D} {M} g o cause given drives is = subst (λ (x : Outcome D M). LegalityClause g x) (sym is) (legal_unopened g cause given drives)

@@ -18,7 +18,7 @@ use Rattle.hsm_cli.specs.declared.outcomes.Outcome.{Outcome}
 use Rattle.hsm_cli.specs.Statuses.{status_of, place_of}
 use Rattle.hsm_cli.specs.Openings.{opened_in, superblock_at, held_at, base_of}
 use Rattle.hsm_cli.specs.Outcomes.{ended_with}
-use Rattle.hsm_cli.specs.Daemons.{IsWellServedOver}
+use Rattle.hsm_cli.specs.Daemons.{KeepsThroughoutOver}
 use Rattle.hsm_cli.specs.Deeds.{DeedsClause}
 use Rattle.hsm_cli.specs.Follows.{SettlesOn}
 use Rattle.hosts.specs.Hosts.{StoresAll}
@@ -26,7 +26,7 @@ use Rattle.hsm_cli.specs.Sealing.{IsRightInMemory, IsRightInFolder}
 use Rattle.hsm_cli.specs.Texts.{IsUnwritten, TakesText, IsShown, AreUntold, AreCounted, drill_text}
 use Rattle.hsm_cli.specs.Told.{SourceTold, SinkTold, FailsOnce, host_told}
 use Rattle.hsm_cli.specs.Endings.{WritingEnds, RunEnds, FormatEnds, ShowEnds}
-use Rattle.hsm_cli.specs.Clauses.{HasRun, HasDrilled, HasRead, HasReadOn, IsUnread, TellsGiven, IsRunOver, IsGoodSeenOver, IsOrderlyOver, IsGoodOver, IsPlainOver}
+use Rattle.hsm_cli.specs.Clauses.{HasRun, HasDrilled, HasRead, HasReadOn, IsUnread, TellsGiven, IsRunOver, IsGoodSeenOver, IsOrderlyOver, IsPackedOver, IsGoodOver, IsPlainOver}
 use Rattle.hsm_cli.specs.Clauses.{IsCausedOver, NoneFailed, TellsFaults}
 use Rattle.hsm_cli.specs.Clauses.{LegalityClause, PlainClause, MediaClause, LeavesSafe, OnlyReads, IsFormatted, HandsOut, HasFailed, HasDriveFailed}
 use Rattle.hsm_cli.specs.Clauses.{GivesBack, HandsDrives, GivesShown, AsksShown, asked_by, FindsNothing, TakesTranscript, Why, HasBegun, Lacks}
@@ -162,7 +162,7 @@ module _ {H D M : Type 0} (t : host.Ghosts H D M) (g : disk.Ghosts D) (h : drive
 
   -- ---- forms that run lines on a new store
 
-  module _ (is : o ≡ ended_with o.cause o.history None) (good : IsGoodOver {D = D} None o.history) (faultless : has_fault o.history ≡ false)
+  module _ (is : o ≡ ended_with o.cause o.history None) (good : IsGoodOver {D = D} None o.history) (packed : IsPackedOver {D = D} None o.history) (faultless : has_fault o.history ≡ false)
       (plain : IsPlainOver {D = D} None o.history) (caused : IsCausedOver {D = D} None o.history) (media : NoneFailed (faults_in o.history)) where
     told : (o.status ≡ status_of o.cause) × (o.at ≡ place_of o.cause)
     told = (ap (λ (x : Outcome D M). x.status) is, ap (λ (x : Outcome D M). x.at) is)
@@ -181,6 +181,7 @@ module _ {H D M : Type 0} (t : host.Ghosts H D M) (g : disk.Ghosts D) (h : drive
       from = subst (λ (s : Option (Store D)). IsRunOver (TellsGiven g o.disk) s o.history) (sym not_opened) (good_seen {D = D} (TellsGiven g o.disk) None o.history good);
       seen = subst (λ (s : Option (Store D)). IsGoodSeenOver (TellsGiven g o.disk) s o.history) (sym not_opened) (good_but_bytes {D = D} (TellsGiven g o.disk) None o.history (good_seen {D = D} (TellsGiven g o.disk) None o.history good));
       orderly = subst (λ (s : Option (Store D)). IsOrderlyOver s o.history) (sym not_opened) (record { once = good.once; ordered = good.ordered });
+      packed = subst (λ (s : Option (Store D)). IsPackedOver s o.history) (sym not_opened) packed;
       good = λ tells. subst (λ (s : Option (Store D)). IsGoodOver s o.history) (sym not_opened) good;
       caused = λ is. absurd (false≢true (sym faultless ∙ is));
       told = λ is some. absurd (false≢true (subst (λ (s : Option (Store D)). IsSome s) not_opened some));
@@ -194,7 +195,7 @@ module _ {H D M : Type 0} (t : host.Ghosts H D M) (g : disk.Ghosts D) (h : drive
     new_caused = subst (λ (s : Option (Store D)). IsCausedOver s o.history) (sym not_opened) caused
 
     pub replay_keeps : ((bytes : List ℕ) (lines : List Line) → IsScript bytes lines → IsOneScript bytes lines)
-        → HasRun (SettlesOn (opened_in o)) (λ marks. IsWellServedOver (opened_in o) marks × IsRightInMemory marks) false source o.cause o.history
+        → HasRun (SettlesOn (opened_in o)) (λ marks. KeepsThroughoutOver (opened_in o) marks × IsRightInMemory marks) false source o.cause o.history
         → DeedsClause h (t.stores old) (Some Replay) source o
         → HasRead source o.cause
         → TakesTranscript o sink
@@ -221,7 +222,7 @@ module _ {H D M : Type 0} (t : host.Ghosts H D M) (g : disk.Ghosts D) (h : drive
     }
 
     pub drill_keeps : (number : ℕ)
-        → HasDrilled (SettlesOn (opened_in o)) (λ marks. IsWellServedOver (opened_in o) marks × IsRightInMemory marks) number o.cause o.history
+        → HasDrilled (SettlesOn (opened_in o)) (λ marks. KeepsThroughoutOver (opened_in o) marks × IsRightInMemory marks) number o.cause o.history
         → DeedsClause h (t.stores old) (Some (Drill number)) source o
         → TakesText (λ text. text ≡ drill_text number o.history) sink o.cause
         → IfSome o.cause (WritingEnds sink)
@@ -248,7 +249,7 @@ module _ {H D M : Type 0} (t : host.Ghosts H D M) (g : disk.Ghosts D) (h : drive
   pub store_keeps : (path dir : List ℕ) → ((bytes : List ℕ) (lines : List Line) → IsScript bytes lines → IsOneScript bytes lines)
       → (o.status ≡ status_of o.cause) × (o.at ≡ place_of o.cause) × (o.base ≡ base_of (opened_in o))
       → o.cause ≢ Some WordsRefused
-      → HasRun (SettlesOn (opened_in o)) (λ marks. IsWellServedOver (opened_in o) marks × IsRightInFolder h (t.stores old dir) o.drives marks) true source o.cause o.history
+      → HasRun (SettlesOn (opened_in o)) (λ marks. KeepsThroughoutOver (opened_in o) marks × IsRightInFolder h (t.stores old dir) o.drives marks) true source o.cause o.history
       → DeedsClause h (t.stores old) (Some (ReplayStore path dir)) source o
       → HasReadOn (opened_in o) source o.cause
       → LegalityClause g o

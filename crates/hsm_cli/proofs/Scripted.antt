@@ -21,9 +21,9 @@ use Rattle.hsm_cli.specs.declared.causes.Cause.{Cause}
 use Rattle.hsm_cli.specs.declared.causes.Cause.TheVariants.{ScriptRefused, WordsRefused, NotStore, Corrupt, ReadFault, WriteFault, DiskFault}
 use Rattle.hsm_cli.specs.declared.causes.Cause.TheVariants.{HostFault, NoMemory}
 use Rattle.hsm_cli.specs.Clauses.{HasRun}
-use Rattle.hsm_cli.specs.Daemons.{IsWellServed, IsWellServedOver, ServedIsWell}
+use Rattle.hsm_cli.specs.Daemons.{KeepsThroughout, KeepsThroughoutOver, ServedKeepsThroughout}
 use Rattle.hsm_cli.specs.Endings.{ScriptEnds, IsBeforeReading}
-use Rattle.hsm_cli.specs.Follows.{RunsBy, FollowsFirst, HasRunOn, IsServed, IsOfScript, IsRunOf, FollowsScript, RunsAll, RunsFirst, SettlesOn}
+use Rattle.hsm_cli.specs.Follows.{RunsBy, FollowsFirst, HasRunOn, IsOfScript, IsRunOf, FollowsScript, RunsAll, RunsFirst, SettlesOn}
 use Rattle.hsm_cli.specs.Follows.{SettlesSince, lines_run}
 use Rattle.hsm_cli.specs.Openings.{replay_store}
 use Rattle.hsm_cli.specs.Sealing.{TellsOf}
@@ -31,9 +31,6 @@ use Rattle.hsm_cli.specs.Sources.{script_bytes}
 use Rattle.hsm_cli.specs.Told.{SourceTold}
 
 -- ---- no line was run
-
-pub none_served : (history : List Entry) → history ≡ [] → IsServed history
-none_served history none = ([], sym none, tt)
 
 pub none_true : {M : Type 0} (h : drive.Ghosts M) (drives : List M) (history : List Entry) → history ≡ [] → AreTrue h drives (faults_in history)
 none_true h drives history none = subst (λ (es : List Entry). AreTrue h drives (faults_in es)) (sym none) (record { each = tt; apart = tt })
@@ -71,9 +68,6 @@ module _ {D M : Type 0} {opened : List M} (h : drive.Ghosts M) (s : Run D M) (li
 
   script_run : (FollowsSo : List Line → List Mark → Type 0) (given : Option (List ℕ)) (lines : List Line) → IfSome given (λ bytes. IsScript (script_bytes bytes) lines) → HasRunOn h opened (FollowsSo lines) s → IsRunOf (FollowsScript FollowsSo given) (TellsOf h opened s.drives) s.system.store.history
   script_run FollowsSo given lines script run = run_of (FollowsScript FollowsSo given) (record { marks = run.marks; follows = script_of FollowsSo given lines run.marks script run.follows; marked = run.marked })
-
-  pub is_served : (FollowsSo : List Mark → Type 0) → HasRunOn h opened FollowsSo s → IsServed s.system.store.history
-  is_served FollowsSo run = (run.marks, run.marked.entries, subst (λ (n : Numbers). Served n run.marks) limits run.marked.served)
 
 -- ---- by the default settings
 
@@ -117,9 +111,9 @@ module _ (Settles : List Line → List Mark → Type 0) (Tells Says : List Mark 
   has_run_says commits source (Some HostFault) ran = ran
 
 -- and the run is well served
-pub also_well : {D : Type 0} (opened : Option (Store D)) (Settles : List Line → List Mark → Type 0) (Tells : List Mark → Type 0) (commits : Bool) (source : SourceTold) (cause : Option Cause) (history : List Entry) → ServedIsWell opened history
-    → HasRun Settles Tells commits source cause history → HasRun Settles (λ marks. IsWellServedOver opened marks × Tells marks) commits source cause history
-also_well opened Settles Tells commits source cause history well ran = has_run_says Settles Tells (λ marks. IsWellServedOver opened marks × Tells marks) history (λ marks entries served tells. (well marks entries served, tells)) commits source cause ran
+pub also_keeps : {D : Type 0} (opened : Option (Store D)) (Settles : List Line → List Mark → Type 0) (Tells : List Mark → Type 0) (commits : Bool) (source : SourceTold) (cause : Option Cause) (history : List Entry) → ServedKeepsThroughout opened history
+    → HasRun Settles Tells commits source cause history → HasRun Settles (λ marks. KeepsThroughoutOver opened marks × Tells marks) commits source cause history
+also_keeps opened Settles Tells commits source cause history well ran = has_run_says Settles Tells (λ marks. KeepsThroughoutOver opened marks × Tells marks) history (λ marks entries served tells. (well marks entries served, tells)) commits source cause ran
 
 -- a run that ended before its script was read
 none_read : (Settles : List Line → List Mark → Type 0) (Says : List Mark → Type 0) (commits : Bool) (source : SourceTold) (why : Cause) (history : List Entry) → IsBeforeReading why → history ≡ [] → HasRun Settles Says commits source (Some why) history
@@ -165,8 +159,8 @@ idle_none history old new (Err why) none same = ap history same ∙ none
 
 -- what settles come to, and what is well served, on a store of that superblock that holds nothing is so on a new one
 pub settles_new : {D : Type 0} (E : Type 0) (s : Store D) (IsSo : (List Line → List Mark → Type 0) → (List Mark → Type 0) → Type 0) → superblock_of s ≡ replay_store → s.held ≡ nothing_held → s.meta.number ≡ 0
-    → IsSo (SettlesOn (Some s)) (IsWellServedOver (Some s)) → IsSo (SettlesOn {D = E} None) (IsWellServedOver {D = E} None)
+    → IsSo (SettlesOn (Some s)) (KeepsThroughoutOver (Some s)) → IsSo (SettlesOn {D = E} None) (KeepsThroughoutOver {D = E} None)
 settles_new E s IsSo superblock held number so =
-    subst (λ (x : Held). IsSo (EachSettles standard replay_store (just_opened 0 x) no_daemon no_daemon []) (IsWellServed replay_store 0 x)) held
-    (subst (λ (n : ℕ). IsSo (EachSettles standard replay_store (just_opened n s.held) no_daemon no_daemon []) (IsWellServed replay_store n s.held)) number
-    (subst (λ (x : Superblock). IsSo (EachSettles standard x (just_opened s.meta.number s.held) no_daemon no_daemon []) (IsWellServed x s.meta.number s.held)) superblock so))
+    subst (λ (x : Held). IsSo (EachSettles standard replay_store (just_opened 0 x) no_daemon no_daemon []) (KeepsThroughout replay_store 0 x)) held
+    (subst (λ (n : ℕ). IsSo (EachSettles standard replay_store (just_opened n s.held) no_daemon no_daemon []) (KeepsThroughout replay_store n s.held)) number
+    (subst (λ (x : Superblock). IsSo (EachSettles standard x (just_opened s.meta.number s.held) no_daemon no_daemon []) (KeepsThroughout x s.meta.number s.held)) superblock so))

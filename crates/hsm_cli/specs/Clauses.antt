@@ -26,6 +26,7 @@ use Rattle.seen_history.specs.Laws.{IsGoodSeen}
 use Rattle.hsm_policy.specs.Settings.{standard}
 use Rattle.file_store.specs.Stores.{Store, superblock_of, IsRecovered, IsDurable}
 use Rattle.hsm_core.specs.Crashes.{IsPrefix}
+use Rattle.hsm_core.specs.Packed.{ArePacked}
 use Rattle.marked_history.specs.Caused.{Caused}
 use Rattle.hsm_replay.specs.Drives.{HaveGrown}
 use Rattle.hsm_replay.specs.Faults.{faults_in, AreTrue}
@@ -41,7 +42,7 @@ use Rattle.hsm_cli.specs.declared.outcomes.Outcome.{Outcome}
 use Rattle.hsm_cli.specs.Statuses.{status_of, place_of}
 use Rattle.hsm_cli.specs.Sources.{script_bytes, GivesFirst, GivesWhole}
 use Rattle.hsm_cli.specs.Openings.{opened_in, superblock_at, held_at, base_of}
-use Rattle.hsm_cli.specs.Daemons.{IsWellServedOver}
+use Rattle.hsm_cli.specs.Daemons.{KeepsThroughoutOver}
 use Rattle.hsm_cli.specs.Deeds.{DeedsClause}
 use Rattle.hsm_cli.specs.Follows.{SettlesOn, RunsAll, RunsFirst, DrillsAll, DrillsFirst}
 use Rattle.hosts.specs.Hosts.{IsHanded, AreHanded, HoldsNothing, HoldsOthers, HoldsAll, StoresNothing, StoresOthers, StoresAll}
@@ -80,11 +81,11 @@ HasDrilled Settles Says number (Some why) history = history ≡ []
 abbrev pub ScriptClause : {D M : Type 0} → drive.Ghosts M → (List ℕ → ℕ → Objects → Type 0) → Option Form → SourceTold → Outcome D M → Type 0
 ScriptClause g stores None source o = o.history ≡ []
 ScriptClause g stores (Some (Format path size)) source o = o.history ≡ []
-ScriptClause g stores (Some Replay) source o = HasRun (SettlesOn (opened_in o)) (λ marks. IsWellServedOver (opened_in o) marks × IsRightInMemory marks) false source o.cause o.history
-ScriptClause g stores (Some (ReplayStore path dir)) source o = HasRun (SettlesOn (opened_in o)) (λ marks. IsWellServedOver (opened_in o) marks × IsRightInFolder g (stores dir) o.drives marks) true source o.cause o.history
+ScriptClause g stores (Some Replay) source o = HasRun (SettlesOn (opened_in o)) (λ marks. KeepsThroughoutOver (opened_in o) marks × IsRightInMemory marks) false source o.cause o.history
+ScriptClause g stores (Some (ReplayStore path dir)) source o = HasRun (SettlesOn (opened_in o)) (λ marks. KeepsThroughoutOver (opened_in o) marks × IsRightInFolder g (stores dir) o.drives marks) true source o.cause o.history
 ScriptClause g stores (Some (Show path)) source o = o.history ≡ []
 ScriptClause g stores (Some (ShowVolumes path dir)) source o = o.history ≡ []
-ScriptClause g stores (Some (Drill number)) source o = HasDrilled (SettlesOn (opened_in o)) (λ marks. IsWellServedOver (opened_in o) marks × IsRightInMemory marks) number o.cause o.history
+ScriptClause g stores (Some (Drill number)) source o = HasDrilled (SettlesOn (opened_in o)) (λ marks. KeepsThroughoutOver (opened_in o) marks × IsRightInMemory marks) number o.cause o.history
 
 -- ---- the reading clause
 
@@ -125,6 +126,10 @@ IsRunOver Told opened history = IsRunSeen Told (superblock_at opened) (base_of o
 abbrev pub IsOrderlyOver : {D : Type 0} → Option (Store D) → List Entry → Type 0
 IsOrderlyOver opened history = IsOrderly (superblock_at opened) (base_of opened) (held_at opened) history
 
+-- And each buffer that a session was told is that of messages that it then had.
+abbrev pub IsPackedOver : {D : Type 0} → Option (Store D) → List Entry → Type 0
+IsPackedOver opened history = ArePacked (superblock_at opened) (just_opened (base_of opened) (held_at opened)) history
+
 -- From each plain map that the store stands for it is good but for bytes, and where the disk tells in these too: each entry is alike to one that may come;
 -- what each beginning of the history leaves stands so for the map that it leaves; and the mapped blocks, all that sessions keep, and the stamps are just
 -- those of the rules.
@@ -148,6 +153,7 @@ pub record HasFailed {D : Type 0} (g : disk.Ghosts D) (given : Option D) : Type 
 pub record LegalityClause {D M : Type 0} (g : disk.Ghosts D) (o : Outcome D M) : Type 0 where
   pub from : IsRunOver (TellsGiven g o.disk) (opened_in o) o.history
   pub orderly : IsOrderlyOver (opened_in o) o.history
+  pub packed : IsPackedOver (opened_in o) o.history
   pub seen : IsGoodSeenOver (TellsGiven g o.disk) (opened_in o) o.history
   pub good : TellsGiven g o.disk → IsGoodOver (opened_in o) o.history
   pub caused : has_fault o.history ≡ true → HasFailed g o.disk

@@ -6,28 +6,45 @@ use Rattle.plain_model.specs.declared.entries.Entry.{Entry}
 use Rattle.plain_model.specs.State.{Held, just_opened}
 use Rattle.hsm_policy.specs.Settings.{standard}
 use Rattle.file_store.specs.Stores.{Store}
-use Rattle.marked_history.specs.Coming.{MakesAnew, TakesOver}
+use Rattle.deeds.specs.Deeds.{Deed, entries_of}
+use Rattle.deeds.specs.Leads.{Served}
+use Rattle.hsm_system.specs.Lives.{recalls, migrates}
+use Rattle.deed_laws.specs.Coming.{MakesAnew, TakesOver}
 use Rattle.marked_history.specs.Freeing.{PunchesFree}
-use Rattle.marked_history.specs.Marks.{Mark, entries_of}
-use Rattle.marked_history.specs.Served.{Served}
+use Rattle.marked_history.specs.Marks.{Mark}
+use Rattle.marked_history.specs.Marks as marking
+use Rattle.marked_history.specs.Served as marked
 use Rattle.marked_history.specs.Tokens.{KeepsAll}
 use Rattle.hsm_cli.specs.Openings.{superblock_at, held_at, base_of}
 
+-- ---- by deeds
+
 -- Of a run on a store that held this when it was opened under that number. A daemon makes a session beside the others only where it was told all
--- sessions, none of which had its information then, and hasn't asked anew since; it takes the place of one only where it was told that this one
--- has its information. At each moment a daemon with a session keeps each event of its kinds that is outstanding to that session, but for those
--- that lines of the script took: none is lost when it is killed and started again. Each punch that is done frees just the mapped blocks of the
--- segments that it names.
-pub record IsWellServed (s : Superblock) (base : ℕ) (h : Held) (marks : List Mark) : Type 0 where
-  pub anew : MakesAnew s (just_opened base h) marks
-  pub over : TakesOver marks
-  pub keeps : (daemon : Daemon) (first rest : List Mark) → marks ≡ first ++ rest → KeepsAll daemon standard s (just_opened base h) first
-  pub frees : PunchesFree s base h (entries_of marks)
+-- sessions, none of which had its information then, and takes the place of one only where it was told that this one has its information; it has
+-- neither asked anew nor was it ended since. Each punch that is done frees just the mapped blocks of the segments that it names.
+pub record IsWellServed (s : Superblock) (base : ℕ) (h : Held) (deeds : List Deed) : Type 0 where
+  pub anew : MakesAnew s (just_opened base h) deeds
+  pub over : TakesOver deeds
+  pub frees : PunchesFree s base h (entries_of deeds)
 
 -- on the store that was opened
-abbrev pub IsWellServedOver : {D : Type 0} → Option (Store D) → List Mark → Type 0
+abbrev pub IsWellServedOver : {D : Type 0} → Option (Store D) → List Deed → Type 0
 IsWellServedOver opened = IsWellServed (superblock_at opened) (base_of opened) (held_at opened)
 
--- all marks that show this history to be served are such
+-- all deeds that show this history to be served are such
 abbrev pub ServedIsWell : {D : Type 0} → Option (Store D) → List Entry → Type 0
-ServedIsWell opened history = (marks : List Mark) → entries_of marks ≡ history → Served standard marks → IsWellServedOver opened marks
+ServedIsWell opened history = (deeds : List Deed) → entries_of deeds ≡ history → Served recalls (migrates standard) deeds → IsWellServedOver opened deeds
+
+-- ---- by marks
+
+-- At each moment a daemon with a session keeps each event of its kinds that is outstanding to that session, but for those that lines of the script took:
+-- none is lost when it is killed and started again.
+abbrev pub KeepsThroughout : Superblock → ℕ → Held → List Mark → Type 0
+KeepsThroughout s base h marks = (daemon : Daemon) (first rest : List Mark) → marks ≡ first ++ rest → KeepsAll daemon standard s (just_opened base h) first
+
+abbrev pub KeepsThroughoutOver : {D : Type 0} → Option (Store D) → List Mark → Type 0
+KeepsThroughoutOver opened = KeepsThroughout (superblock_at opened) (base_of opened) (held_at opened)
+
+-- all marks that show this history to be served are such
+abbrev pub ServedKeepsThroughout : {D : Type 0} → Option (Store D) → List Entry → Type 0
+ServedKeepsThroughout opened history = (marks : List Mark) → marking.entries_of marks ≡ history → marked.Served standard marks → KeepsThroughoutOver opened marks

@@ -26,6 +26,7 @@ use Rattle.hsm_replay.specs.Stopped.{Broken, Ending, StopsIn}
 use Rattle.hsm_cli.specs.declared.causes.Cause.{Cause}
 use Rattle.hsm_cli.specs.declared.causes.Cause.TheVariants.{DiskFault, NoMemory, WriteFault}
 use Rattle.hsm_cli.specs.declared.outcomes.Outcome.{Outcome}
+use Rattle.hsm_cli.specs.Daemons.{IsWellServedOver}
 use Rattle.hsm_cli.specs.Follows.{lines_run}
 use Rattle.hsm_cli.specs.Openings.{base_of, held_at, opened_in, superblock_at}
 use Rattle.hsm_cli.specs.Sources.{script_bytes}
@@ -100,19 +101,19 @@ DrivesInMemory limits deeds = (deeds ≡ []) ⊎ ((drives : List Held) × HaveGo
 
 -- ---- a run
 
--- Some deeds made the history, and served by these settings. They follow lines so, and so they went on drives.
-pub record HasDone (limits : Numbers) (FollowsSo GoSo : List Deed → Type 0) (history : List Entry) : Type 0 where
+-- Some deeds made the history, and served by these settings. They follow lines so, and this is so of them too.
+pub record HasDone (limits : Numbers) (FollowsSo TheyAre : List Deed → Type 0) (history : List Entry) : Type 0 where
   pub deeds : List Deed
   pub entries : entries_of deeds ≡ history
   pub served : Served recalls (migrates limits) deeds
   pub follows : FollowsSo deeds
-  pub drives : GoSo deeds
+  pub so : TheyAre deeds
 
 -- ---- the deeds clause
 
--- a run of such lines, by these settings, on the store that was opened
+-- A run of such lines, by these settings, on the store that was opened: it is well served, and so its deeds went on drives.
 abbrev pub RunHasDone : {D M : Type 0} → Numbers → (List Line → Type 0) → (List Deed → Type 0) → Outcome D M → Type 0
-RunHasDone limits AreTheLines GoSo o = HasDone limits (AreDone (MayGoOnOver (opened_in o)) AreTheLines o.cause) GoSo o.history
+RunHasDone limits AreTheLines GoSo o = HasDone limits (AreDone (MayGoOnOver (opened_in o)) AreTheLines o.cause) (λ deeds. IsWellServedOver (opened_in o) deeds × GoSo deeds) o.history
 
 -- What each form that runs lines has done, by the default settings.
 abbrev pub DeedsClause : {D M : Type 0} → drive.Ghosts M → (List ℕ → ℕ → Objects → Type 0) → Option Form → SourceTold → Outcome D M → Type 0

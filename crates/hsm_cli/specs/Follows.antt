@@ -95,10 +95,6 @@ pub record IsRunOf (FollowsSo Tells : List Mark → Type 0) (history : List Entr
   pub served : Served standard marks
   pub tells : Tells marks
 
--- some marks of the history show that it is served
-abbrev pub IsServed : List Entry → Type 0
-IsServed history = (marks : List Mark) × (entries_of marks ≡ history) × Served standard marks
-
 -- ---- of a script
 
 -- where the source tells its bytes, they are a script whose lines the marks follow so

@@ -16,14 +16,14 @@ ghost use Rattle.hsm_replay.specs.Faults.{faults_in, AreTrue};
 ghost use Rattle.hsm_system.specs.Events.{GoesOn};
 ghost use Rattle.hsm_cli.specs.Openings.{opened_in, replay_store};
 ghost use Rattle.hsm_cli.specs.Outcomes.{ended_with};
-ghost use Rattle.hsm_cli.specs.Follows.{RunsBy, FollowsFirst, IsRunOf, IsServed, SettlesOn};
-ghost use Rattle.hsm_cli.specs.Daemons.{IsWellServedOver, ServedIsWell};
+ghost use Rattle.hsm_cli.specs.Follows.{RunsBy, FollowsFirst, IsRunOf, SettlesOn};
+ghost use Rattle.hsm_cli.specs.Daemons.{KeepsThroughoutOver, ServedIsWell, ServedKeepsThroughout};
 ghost use Rattle.hsm_cli.specs.Deeds.{AreDone, AreThese, DrivesInMemory, HasDone, HaveGone, MayGoOnOver, RunHasDone, without_objects};
 ghost use Rattle.hsm_cli.specs.Sealing.{TellsOf, IsRightInMemory};
 ghost use Rattle.hsm_cli.specs.Texts.{TakesText, HasLeft, drill_text};
 ghost use Rattle.hsm_cli.specs.Told.{FailsOnce, sink_told};
 ghost use Rattle.hsm_cli.specs.Endings.{cause_in, WritingEnds, LinesEnd};
-ghost use Rattle.hsm_cli.specs.Clauses.{HasDrilled, IsGoodOver, IsPlainOver, IsCausedOver, NoneFailed};
+ghost use Rattle.hsm_cli.specs.Clauses.{HasDrilled, IsPackedOver, IsGoodOver, IsPlainOver, IsCausedOver, NoneFailed};
 ghost use Rattle.hsm_cli.specs.Runs.{IsOpenedAnew, IsReady};
 
 use crate::causes::Cause;
@@ -31,15 +31,14 @@ use crate::in_memory::{new_drives, new_store};
 use crate::outcomes::Outcome;
 use crate::runs::run;
 use crate::streams::write_text;
+use deed_laws::{is_caused, makes_anew, takes_over};
 use disk_model::{Disk, SureDisk};
 use drill_script::{drill_script, summary_text};
 use hosts::Sink;
 use hsm_core::Hsm;
 use hsm_policy::Settings;
 use hsm_replay::{Replay, Stop, seals_are_whole};
-use marked_history::{
-    punch_frees, served_is_caused, served_keeps_all, served_makes_anew, served_takes_over,
-};
+use marked_history::{punch_frees, served_keeps_all};
 use media_model::{Drive, SureDrive};
 use plain_model::History;
 use script_text::Script;
@@ -77,9 +76,10 @@ struct Drilled<D, M> {
 /// Runs the script that is made of that number on a new small store in memory, and writes one line on its run.
 pub(crate) fn drill<D: Disk, M, O: Sink>(alloc: Global, number: u64, sink: &mut O) -> Outcome<D, M>
     ensures ended { result ≡ ended_with result.cause result.history None }
-    ensures script { HasDrilled (SettlesOn (opened_in result)) (λ marks. IsWellServedOver (opened_in result) marks × IsRightInMemory marks) number result.cause result.history }
+    ensures script { HasDrilled (SettlesOn (opened_in result)) (λ marks. KeepsThroughoutOver (opened_in result) marks × IsRightInMemory marks) number result.cause result.history }
     ensures deeds { RunHasDone standard (AreThese (drill_lines number)) (DrivesInMemory standard) result }
     ensures legality { IsGoodOver {D = D} None result.history }
+    ensures packed { IsPackedOver {D = D} None result.history }
     ensures faultless { has_fault result.history ≡ false }
     ensures plain { IsPlainOver {D = D} None result.history }
     ensures media { NoneFailed (faults_in result.history) }
@@ -130,9 +130,11 @@ fn run_on<D: Disk, M: Drive>(
     requires count { length drives.items ≡ standard.drives }
     ensures all { OnOk result.ended (IsRunOf (RunsBy (SettlesOn (Some hsm.opened)) script) (TellsOf M.Drive drives.items result.drives.items) result.history) }
     ensures first { IsRunOf (FollowsFirst (SettlesOn (Some hsm.opened)) script) (TellsOf M.Drive drives.items result.drives.items) result.history }
+    ensures keeps { ServedKeepsThroughout (Some hsm.opened) result.history }
     ensures well { ServedIsWell (Some hsm.opened) result.history }
     ensures deeds { HasDone standard (AreDone (MayGoOnOver (Some hsm.opened)) (AreThese script) (cause_in result.ended)) (λ deeds. HaveGone M.Drive drives.items deeds result.drives.items) result.history }
     ensures good { Tells D.Disk result.disk → IsGoodOver (Some hsm.opened) result.history }
+    ensures packed { IsPackedOver (Some hsm.opened) result.history }
     ensures caused_by { IsCausedOver (Some hsm.opened) result.history }
     ensures media { AreTrue M.Drive result.drives.items (faults_in result.history) }
     ensures drives { HaveGrown M.Drive drives.items result.drives.items }
@@ -140,9 +142,9 @@ fn run_on<D: Disk, M: Drive>(
     ensures faultless { cause_in result.ended ≢ Some Cause.DiskFault → has_fault result.history ≡ false }
     ensures totals { cause_in result.ended ≢ Some Cause.DiskFault → HasLeft (held_by (superblock_of hsm.opened) hsm.opened.meta.number hsm.opened.held result.history) result.used result.offline }
 {
-    served_is_caused();
-    served_makes_anew();
-    served_takes_over();
+    is_caused();
+    makes_anew();
+    takes_over();
     served_keeps_all();
     punch_frees();
     let mut replay = Replay::new(hsm, drives, Settings::default());
@@ -172,7 +174,6 @@ fn run_all<D: Disk, M: Drive>(
     ensures goes_on { GoesOn D.Disk replay.old.system.store replay.new.system.store }
     ensures all { OnOk result (IsRunOf (RunsBy (SettlesOn (Some replay.old.system.store.opened)) script) (TellsOf M.Drive replay.old.drives replay.new.drives) replay.new.system.store.history) }
     ensures first { IsRunOf (FollowsFirst (SettlesOn (Some replay.old.system.store.opened)) script) (TellsOf M.Drive replay.old.drives replay.new.drives) replay.new.system.store.history }
-    ensures served { IsServed replay.new.system.store.history }
     ensures deeds { HasDone standard (AreDone (MayGoOnOver (Some replay.old.system.store.opened)) (AreThese script) (cause_in result)) (λ deeds. HaveGone M.Drive replay.old.drives deeds replay.new.drives) replay.new.system.store.history }
     ensures media { AreTrue M.Drive replay.new.drives (faults_in replay.new.system.store.history) }
     ensures ends { IfErr result (LinesEnd (RoseByOne (D.fault_count replay.old.system.store.files.disk) (D.fault_count replay.new.system.store.files.disk))) }

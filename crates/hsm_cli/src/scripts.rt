@@ -16,10 +16,10 @@ ghost use Rattle.hsm_system.specs.Events.{GoesOn};
 ghost use Rattle.hsm_replay.specs.Running.{IsAllDurable};
 ghost use Rattle.hsm_cli.specs.Sealing.{TellsOf};
 ghost use Rattle.hsm_cli.specs.Sources.{script_bytes, GivesFirst};
-ghost use Rattle.hsm_cli.specs.Follows.{IsServed, SettlesOn};
-ghost use Rattle.hsm_cli.specs.Daemons.{ServedIsWell};
+ghost use Rattle.hsm_cli.specs.Follows.{SettlesOn};
+ghost use Rattle.hsm_cli.specs.Daemons.{ServedIsWell, ServedKeepsThroughout};
 ghost use Rattle.hsm_cli.specs.Deeds.{AreDone, AreOfScript, HasDone, HaveGone, MayGoOnOver};
-ghost use Rattle.hsm_cli.specs.Clauses.{HasRun, HasRead, IsRunOver, IsOrderlyOver, IsGoodOver, IsPlainOver, IsCausedOver, IsWhole, IsBeforeRun};
+ghost use Rattle.hsm_cli.specs.Clauses.{HasRun, HasRead, IsRunOver, IsOrderlyOver, IsPackedOver, IsGoodOver, IsPlainOver, IsCausedOver, IsWhole, IsBeforeRun};
 ghost use Rattle.hsm_cli.specs.Clauses.{RanToItsEnd, ReadsQuietly, WritesQuietly};
 ghost use Rattle.hsm_cli.specs.Endings.{cause_in, IsBeforeReading, ScriptEnds, WritingEnds, RunEnds, first_of};
 ghost use Rattle.hsm_cli.specs.Told.{FailsOnce, source_told, sink_told};
@@ -28,6 +28,7 @@ ghost use Rattle.hsm_cli.specs.Runs.{IsOpenedAnew, IsReady};
 use crate::causes::Cause;
 use crate::runs::run;
 use crate::streams::{read_all, write_all};
+use deed_laws::{is_caused, makes_anew, takes_over};
 use disk_model::Disk;
 use event_text::render;
 use file_store::{FileStore, one_recovery};
@@ -35,9 +36,7 @@ use hosts::{Failed, Sink, Source};
 use hsm_core::Hsm;
 use hsm_policy::Settings;
 use hsm_replay::{Replay, Stop};
-use marked_history::{
-    punch_frees, served_is_caused, served_keeps_all, served_makes_anew, served_takes_over,
-};
+use marked_history::{punch_frees, served_keeps_all};
 use media_model::Drive;
 use plain_model::History;
 use script_text::{ParseRefusal, Script, parse};
@@ -78,11 +77,13 @@ pub(crate) fn run_opened<D: Disk, M: Drive, I: Source, O: Sink>(
     ensures opening { result.opening.value ≡ hsm.opened }
     ensures base { result.base ≡ hsm.opened.meta.number }
     ensures script { HasRun (SettlesOn (Some hsm.opened)) (λ marks. IfOk drives (λ ds. TellsOf M.Drive ds.items result.drives.items marks)) commits (source_told I.left I.fault_count source.old source.new) result.cause result.history }
+    ensures keeps { ServedKeepsThroughout (Some hsm.opened) result.history }
     ensures well { ServedIsWell (Some hsm.opened) result.history }
     ensures deeds { HasDone standard (AreDone (MayGoOnOver (Some hsm.opened)) (AreOfScript commits (I.left source.old)) result.cause) (λ deeds. MatchResult drives (λ ds. HaveGone M.Drive ds.items deeds result.drives.items) (λ why. deeds ≡ [])) result.history }
     ensures reading { HasRead (source_told I.left I.fault_count source.old source.new) result.cause }
     ensures legality { IsRunOver (Tells D.Disk result.disk) (Some hsm.opened) result.history }
     ensures orderly { IsOrderlyOver (Some hsm.opened) result.history }
+    ensures packed { IsPackedOver (Some hsm.opened) result.history }
     ensures good { Tells D.Disk result.disk → IsGoodOver (Some hsm.opened) result.history }
     ensures caused { has_fault result.history ≡ true → RoseByOne (D.fault_count hsm.opened.disk) (D.fault_count result.disk) }
     ensures told { result.cause ≡ Some Cause.DiskFault → has_fault result.history ≡ true }
@@ -109,9 +110,9 @@ pub(crate) fn run_opened<D: Disk, M: Drive, I: Source, O: Sink>(
     ensures ends { RunEnds (IsErrOf drives Cause.HostFault) (RoseByOne (D.fault_count hsm.opened.disk) (D.fault_count result.disk)) (source_told I.left I.fault_count source.old source.new) (sink_told O.taken O.fault_count sink.old sink.new) result.cause }
 {
     one_recovery();
-    served_is_caused();
-    served_makes_anew();
-    served_takes_over();
+    is_caused();
+    makes_anew();
+    takes_over();
     served_keeps_all();
     punch_frees();
     let base = hsm.base();
@@ -160,7 +161,6 @@ fn run_with<D: Disk, M: Drive, I: Source>(
     ensures durable { commits ≡ true → OnOk result.ended (IsAllDurable result.hsm) }
     ensures untouched { IsBeforeRun (cause_in result.ended) → result.hsm ≡ hsm }
     ensures media { AreTrue M.Drive result.drives.items (faults_in result.hsm.history) }
-    ensures served { IsServed result.hsm.history }
     ensures idle { OnErr drives (result.hsm ≡ hsm) }
     ensures quiet { (IsErrOf result.ended Cause.ReadFault → ⊥) → I.fault_count source.new ≡ I.fault_count source.old }
     ensures once { FailsOnce (I.fault_count source.old) (I.fault_count source.new) }
@@ -202,7 +202,6 @@ fn run_script<D: Disk, M: Drive, I: Source>(
     ensures durable { commits ≡ true → OnOk result (IsAllDurable replay.new.system.store) }
     ensures untouched { IsBeforeRun (cause_in result) → replay.new ≡ replay.old }
     ensures media { AreTrue M.Drive replay.new.drives (faults_in replay.new.system.store.history) }
-    ensures served { IsServed replay.new.system.store.history }
     ensures drives { HaveGrown M.Drive replay.old.drives replay.new.drives }
     ensures quiet { (IsErrOf result Cause.ReadFault → ⊥) → I.fault_count source.new ≡ I.fault_count source.old }
     ensures once { FailsOnce (I.fault_count source.old) (I.fault_count source.new) }

@@ -32,7 +32,6 @@ use Rattle.hsm_replay.specs.Sealed.{HearsLost, HearsStored}
 use Rattle.hsm_replay.specs.Filling.{FindsFull}
 use Rattle.marked_history.specs.Served.{shown, nothing_shown}
 use Rattle.hsm_replay.specs.Systems.{Run, started, killed, refreshed, told_next}
-use Rattle.hsm_replay.proofs.Adding.{adds_none}
 use Rattle.hsm_replay.proofs.Filling.{full_started, full_refreshed}
 use Rattle.hsm_replay.proofs.Growing.{have_grown_itself}
 use Rattle.hsm_replay.proofs.Joining.{Settles, runs_itself}
@@ -213,12 +212,12 @@ module _ {D M : Type 0} (g : disk.Ghosts D) (h : drive.Ghosts M) where
   still opened marks s shows = subst (λ (ms : List Mark). Shows h opened ms s) (sym (append-nil marks)) shows
 
   pub starts_moves : (daemon : Daemon) (s : Run D M) → Moves {T = Unit {0}} g h IsNone (Ok tt) s (started daemon s)
-  starts_moves Recall s = record { limits = refl; drives = have_grown_itself h s.drives; runs = runs_itself g h tt s.system.store; adds = adds_none IsNone s (started Recall s) refl refl; adds_first = tt; keeps = λ opened marks shows. ([], refl, still opened marks (started Recall s) (shows_started opened marks Recall s shows), tt, starts_live Recall s marks); ends = tt }
-  starts_moves Migrate s = record { limits = refl; drives = have_grown_itself h s.drives; runs = runs_itself g h tt s.system.store; adds = adds_none IsNone s (started Migrate s) refl refl; adds_first = tt; keeps = λ opened marks shows. ([], refl, still opened marks (started Migrate s) (shows_started opened marks Migrate s shows), tt, starts_live Migrate s marks); ends = tt }
+  starts_moves Recall s = record { limits = refl; drives = have_grown_itself h s.drives; runs = runs_itself g h tt s.system.store; keeps = λ opened marks shows. ([], refl, still opened marks (started Recall s) (shows_started opened marks Recall s shows), tt, starts_live Recall s marks); ends = tt }
+  starts_moves Migrate s = record { limits = refl; drives = have_grown_itself h s.drives; runs = runs_itself g h tt s.system.store; keeps = λ opened marks shows. ([], refl, still opened marks (started Migrate s) (shows_started opened marks Migrate s shows), tt, starts_live Migrate s marks); ends = tt }
 
   pub kills_moves : (daemon : Daemon) (s : Run D M) → Moves {T = Unit {0}} g h IsNone (Ok tt) s (killed daemon s)
-  kills_moves Recall s = record { limits = refl; drives = have_grown_itself h s.drives; runs = runs_itself g h tt s.system.store; adds = adds_none IsNone s (killed Recall s) refl refl; adds_first = tt; keeps = λ opened marks shows. ([], refl, still opened marks (killed Recall s) (shows_killed opened marks Recall s shows), tt, kills_live Recall s marks); ends = tt }
-  kills_moves Migrate s = record { limits = refl; drives = have_grown_itself h s.drives; runs = runs_itself g h tt s.system.store; adds = adds_none IsNone s (killed Migrate s) refl refl; adds_first = tt; keeps = λ opened marks shows. ([], refl, still opened marks (killed Migrate s) (shows_killed opened marks Migrate s shows), tt, kills_live Migrate s marks); ends = tt }
+  kills_moves Recall s = record { limits = refl; drives = have_grown_itself h s.drives; runs = runs_itself g h tt s.system.store; keeps = λ opened marks shows. ([], refl, still opened marks (killed Recall s) (shows_killed opened marks Recall s shows), tt, kills_live Recall s marks); ends = tt }
+  kills_moves Migrate s = record { limits = refl; drives = have_grown_itself h s.drives; runs = runs_itself g h tt s.system.store; keeps = λ opened marks shows. ([], refl, still opened marks (killed Migrate s) (shows_killed opened marks Migrate s shows), tt, kills_live Migrate s marks); ends = tt }
 
   pub refresh_moves : (s : Run D M) → Moves {T = Unit {0}} g h (Settles g h) (Ok tt) s (refreshed s)
-  refresh_moves s = record { limits = refl; drives = have_grown_itself h s.drives; runs = runs_itself g h tt s.system.store; adds = adds_none (Settles g h) s (refreshed s) tt refl; adds_first = tt; keeps = λ opened marks shows. ([], tt, still opened marks (refreshed s) (shows_refreshed opened marks s shows), tt, refresh_live s marks); ends = tt }
+  refresh_moves s = record { limits = refl; drives = have_grown_itself h s.drives; runs = runs_itself g h tt s.system.store; keeps = λ opened marks shows. ([], tt, still opened marks (refreshed s) (shows_refreshed opened marks s shows), tt, refresh_live s marks); ends = tt }

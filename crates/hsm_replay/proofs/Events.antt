@@ -27,11 +27,10 @@ use Rattle.hsm_system.specs.declared.stops.Stop.{Stop}
 use Rattle.hsm_system.proofs.Going.{event_kept_or_not}
 use Rattle.hsm_replay.specs.Doing.{Does}
 use Rattle.hsm_replay.specs.Faults.{fault_in, faults_in, AreTrue}
-use Rattle.hsm_replay.specs.Keeping.{RecallKnows, MigrateKnows, IsMarked, Shows, AddsFirst, Moves, LiveUntil}
+use Rattle.hsm_replay.specs.Keeping.{RecallKnows, MigrateKnows, IsMarked, Shows, Moves, LiveUntil}
 use Rattle.hsm_replay.specs.Passes.{CopyEnds}
 use Rattle.hsm_replay.specs.Systems.{Run, running}
 use Rattle.hsm_replay.specs.Turns.{MayResume}
-use Rattle.hsm_replay.proofs.Adding.{adds_none, adds_one}
 use Rattle.hsm_replay.proofs.Growing.{have_grown_itself}
 use Rattle.hsm_replay.proofs.Living.{none_until, no_call_until, event_lives}
 use Rattle.hsm_replay.proofs.Marked.{shown_more, marked_more, marked_still, no_fault_more}
@@ -120,17 +119,11 @@ module _ {D M : Type 0} (g : disk.Ghosts D) (h : drive.Ghosts M) (old : Run D M)
   ended opened marks shows (inl same) = ([], inr refl, marked_still h opened marks old after shows.marked refl same (have_grown_itself h old.drives), tt, none_until old marks)
   ended opened marks shows (inr kept) = (mark ∷ [], inl (given, refl), marked opened marks shows kept, (tt, tt), no_call_until old marks mark refl)
 
-  added : (store.history ≡ old.system.store.history) ⊎ (store.history ≡ old.system.store.history ++ entry_of actor action given ∷ []) → AddsFirst (IsEventOf actor action) old after
-  added (inl same) = adds_none (λ (more : List Mark). IsEventOf actor action more ⊎ (more ≡ [])) old after (inr refl) same
-  added (inr kept) = adds_one (λ (more : List Mark). IsEventOf actor action more ⊎ (more ≡ [])) mark old after (inl (given, refl)) kept tt
-
   moves_by : (result : Result (Unit {0}) Stop) → Runs g result old.system.store store → OnOk result (store.history ≡ old.system.store.history ++ entry_of actor action given ∷ []) → (store.history ≡ old.system.store.history) ⊎ (store.history ≡ old.system.store.history ++ entry_of actor action given ∷ []) → Moves g h (IsEventOf actor action) result old after
   moves_by (Ok tt) runs kept may = record {
     limits = refl;
     drives = have_grown_itself h old.drives;
     runs = runs;
-    adds = adds_one (IsEventOf actor action) mark old after (given, refl) kept tt;
-    adds_first = tt;
     keeps = λ opened marks shows. (mark ∷ [], (given, refl), shows_on opened marks shows kept, (tt, tt), event_lives old store marks mark refl (λ limits k. refl));
     ends = tt;
   }
@@ -138,8 +131,6 @@ module _ {D M : Type 0} (g : disk.Ghosts D) (h : drive.Ghosts M) (old : Run D M)
     limits = refl;
     drives = have_grown_itself h old.drives;
     runs = runs;
-    adds = tt;
-    adds_first = added may;
     keeps = tt;
     ends = λ opened marks shows. ended opened marks shows may;
   }

@@ -1,5 +1,5 @@
 -- Runs one behind the other.
-use Rattle.std.proofs.Common.{◌≡◌, ◌∙◌, ◌++◌, [], ℕ, List, Result, Ok, Err, inl, inr, refl, sym, subst, append_assoc, append-nil}
+use Rattle.std.proofs.Common.{◌≡◌, ◌∙◌, ◌⊎◌, ◌++◌, [], ℕ, List, Result, Ok, Err, inl, inr, refl, sym, subst, append_assoc, append-nil}
 use Rattle.std.specs.List.{AllByRecursion}
 use Rattle.disk_model.specs.declared.device.Disk as disk
 use Rattle.media_model.specs.declared.drive.Drive as drive
@@ -14,13 +14,24 @@ use Rattle.marked_history.specs.Marks.{Mark}
 use Rattle.hsm_system.specs.Events.{Runs}
 use Rattle.hsm_types.specs.Callers.{IsCallerNumber}
 use Rattle.hsm_replay.specs.Systems.{Run, running}
-use Rattle.hsm_replay.proofs.Adding.{some_or_none, some_or_not, adds_none, adds_as, adds_first_as, adds_then, adds_first_then}
 use Rattle.hsm_replay.proofs.ByRunning.{by_running_then}
 use Rattle.hsm_replay.proofs.Events.{IsEventOf}
 use Rattle.hsm_system.proofs.Going.{goes_itself, goes_then, stopped_then}
 use Rattle.hsm_replay.proofs.Growing.{have_grown_itself, have_grown_on}
 use Rattle.marked_history.proofs.Lists.{all_weaker, all_then}
 use Rattle.hsm_replay.proofs.Living.{live_itself, live_then, live_until}
+
+-- ---- some marks or none
+
+pub some_or_none : (P : Mark → Type 0) (more : List Mark) → AllByRecursion P more ⊎ (more ≡ []) → AllByRecursion P more
+some_or_none P more (inl all) = all
+some_or_none P more (inr none) = subst (AllByRecursion P) (sym none) tt
+
+pub some_or_not : (P Q : List Mark → Type 0) → ((more : List Mark) → P more → Q more) → (more : List Mark) → P more ⊎ (more ≡ []) → Q more ⊎ (more ≡ [])
+some_or_not P Q so more (inl is) = inl (so more is)
+some_or_not P Q so more (inr none) = inr none
+
+-- ---- one run behind the other
 
 module _ {D M : Type 0} (g : disk.Ghosts D) (h : drive.Ghosts M) where
   -- entries of settling, of which there may be any number
@@ -54,15 +65,13 @@ module _ {D M : Type 0} (g : disk.Ghosts D) (h : drive.Ghosts M) where
   -- ---- moves
 
   pub moves_itself : {T : Type 0} {P : Mark → Type 0} (x : T) (s : Run D M) → Moves g h (AllByRecursion P) (Ok x) s s
-  moves_itself {P = P} x s = record { limits = refl; drives = have_grown_itself h s.drives; runs = runs_itself x s.system.store; adds = adds_none (AllByRecursion P) s s tt refl; adds_first = tt; keeps = keeps_itself s; ends = tt }
+  moves_itself {P = P} x s = record { limits = refl; drives = have_grown_itself h s.drives; runs = runs_itself x s.system.store; keeps = keeps_itself s; ends = tt }
 
   pub moves_then : {S T : Type 0} {P : Mark → Type 0} (x : S) (result : Result T Stop) (a b c : Run D M) → running b ≡ running a → Moves g h (AllByRecursion P) (Ok x) a b → Moves g h (AllByRecursion P) result b c → Moves g h (AllByRecursion P) result a c
   moves_then x (Ok y) a b c same first then = record {
     limits = then.limits ∙ first.limits;
     drives = have_grown_on h a.drives b.drives c.drives first.drives then.drives;
     runs = runs_then x (Ok y) a.system.store b.system.store c.system.store first.runs then.runs;
-    adds = adds_then a b c same first.adds then.adds;
-    adds_first = tt;
     keeps = keeps_then a b c same first.keeps then.keeps;
     ends = tt;
   }
@@ -70,28 +79,24 @@ module _ {D M : Type 0} (g : disk.Ghosts D) (h : drive.Ghosts M) where
     limits = then.limits ∙ first.limits;
     drives = have_grown_on h a.drives b.drives c.drives first.drives then.drives;
     runs = runs_then x (Err why) a.system.store b.system.store c.system.store first.runs then.runs;
-    adds = tt;
-    adds_first = adds_first_then a b c same first.adds then.adds_first;
     keeps = tt;
     ends = ends_then a b c same first.keeps then.ends;
   }
 
   -- whatever it answers with
   pub moves_with : {S T : Type 0} (x : S) (y : T) (a b : Run D M) → Moves g h Settles (Ok x) a b → Moves g h Settles (Ok y) a b
-  moves_with x y a b moves = record { limits = moves.limits; drives = moves.drives; runs = record { goes_on = moves.runs.goes_on; works = moves.runs.works }; adds = moves.adds; adds_first = tt; keeps = moves.keeps; ends = tt }
+  moves_with x y a b moves = record { limits = moves.limits; drives = moves.drives; runs = record { goes_on = moves.runs.goes_on; works = moves.runs.works }; keeps = moves.keeps; ends = tt }
 
   pub stops_with : {S T : Type 0} (why : Stop) (a b : Run D M) → Moves {T = S} g h Settles (Err why) a b → Moves {T = T} g h Settles (Err why) a b
-  stops_with why a b moves = record { limits = moves.limits; drives = moves.drives; runs = record { goes_on = moves.runs.goes_on; works = moves.runs.works }; adds = tt; adds_first = moves.adds_first; keeps = tt; ends = moves.ends }
+  stops_with why a b moves = record { limits = moves.limits; drives = moves.drives; runs = record { goes_on = moves.runs.goes_on; works = moves.runs.works }; keeps = tt; ends = moves.ends }
 
   -- the same entries, of another kind
   pub moves_as : {T : Type 0} (P Q : List Mark → Type 0) (result : Result T Stop) (a b : Run D M) → ((more : List Mark) → P more → Q more) → Moves g h P result a b → Moves g h Q result a b
-  moves_as P Q (Ok x) a b so moves = record { limits = moves.limits; drives = moves.drives; runs = moves.runs; adds = adds_as P Q a b so moves.adds; adds_first = tt; keeps = λ opened marks shows. let one = moves.keeps opened marks shows in (one.0, so one.0 one.1, one.2, one.3, one.4); ends = tt }
+  moves_as P Q (Ok x) a b so moves = record { limits = moves.limits; drives = moves.drives; runs = moves.runs; keeps = λ opened marks shows. let one = moves.keeps opened marks shows in (one.0, so one.0 one.1, one.2, one.3, one.4); ends = tt }
   moves_as P Q (Err why) a b so moves = record {
     limits = moves.limits;
     drives = moves.drives;
     runs = moves.runs;
-    adds = tt;
-    adds_first = adds_first_as P Q a b so moves.adds_first;
     keeps = tt;
     ends = λ opened marks shows. let one = moves.ends opened marks shows in (one.0, some_or_not P Q so one.0 one.1, one.2, one.3, one.4);
   }

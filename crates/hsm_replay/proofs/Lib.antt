@@ -26,7 +26,6 @@ mod RecallShown
 mod MigrateShown
 mod OneWay
 mod Stepping
-mod Adding
 mod RightCalls
 mod Living
 mod Moves

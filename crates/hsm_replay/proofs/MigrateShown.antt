@@ -153,10 +153,6 @@ module _ (k : Known) (m : Migrating) (machine : Machine) (shows : MigrateKnows k
   pub migrate_seals : {M : Type 0} (g : drive.Ghosts M) (drives : List M) → HearsStored g drives m.machine.asked (told_next m.next) → (sid : Sid) (t : Token) (h : Handle) (segment : ℕ) (entry : StubEntry) → GoesOn m.machine (told_next m.next) (Dm sid (Seal t h segment entry)) machine → IsStored g drives entry
   migrate_seals g drives hears sid t h segment entry goes = let may = goes.may.2 in sealed_as g drives m.machine.limits.volumes machine.pass.sid goes.may.0 entry m.machine.asked (told_next m.next) hears may.2
 
-  -- it fetches nothing
-  pub migrate_fetches_nothing : (entry : StubEntry) → GoesOn m.machine (told_next m.next) (Fetch entry) machine → ⊥
-  migrate_fetches_nothing entry goes = goes.may
-
   pub migrate_rests : (act : Act) (told : Heard) → IsNoCall act → GoesOn m.machine (told_next m.next) act machine → MigrateKnows k (record { machine = machine; next = Hears told })
   migrate_rests act told no_call goes = ⊎_elim
       (λ (start : Starts m). absurd (no_rest m.machine.limits (now m) m.machine.pass machine.pass m.machine.asked (told_next m.next) act no_call start.1 (no_seat_yet start) goes.may))

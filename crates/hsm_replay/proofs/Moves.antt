@@ -34,14 +34,13 @@ use Rattle.hsm_replay.specs.Acts.{Performs, Stops, FetchesFrom, CopiesTo}
 use Rattle.hsm_replay.specs.Drives.{HasGrown, HaveGrown}
 use Rattle.marked_history.specs.Follows.{IsStepOf}
 use Rattle.hsm_replay.specs.Faults.{faults_in}
-use Rattle.hsm_replay.specs.Keeping.{IsMarked, Shows, AddsFirst, Moves, LiveUntil}
+use Rattle.hsm_replay.specs.Keeping.{IsMarked, Shows, Moves, LiveUntil}
 use Rattle.marked_history.specs.Marks.{Mark, made}
 use Rattle.hsm_system.specs.Events.{Runs}
 use Rattle.hsm_replay.specs.Steps.{Steps, Halts}
 use Rattle.marked_history.specs.Settling.{AreByRunning}
 use Rattle.marked_history.specs.Waiting.{runs}
 use Rattle.hsm_replay.specs.Systems.{Run, drive_of, running, told_next}
-use Rattle.hsm_replay.proofs.Adding.{adds_none, adds_one}
 use Rattle.hsm_replay.proofs.Fetching.{heard_of_fetch}
 use Rattle.hsm_replay.proofs.Filling.{full_of_copy}
 use Rattle.hsm_replay.proofs.PassCopies.{names_copy}
@@ -92,8 +91,6 @@ module _ {D M : Type 0} (g : disk.Ghosts D) (h : drive.Ghosts M) where
           limits = refl;
           drives = have_grown_itself h old.drives;
           runs = served_runs tt sid asked reply (recall_waits old machine (Dm sid asked)).system left serves;
-          adds = adds_one (IsStepOf Recall) (made Recall sid asked reply) old (recall_left old machine (heard.Dm reply) left.store old.drives) (inr (made Recall sid asked reply, refl, (sid, asked, reply, refl))) serves.added (ap (λ (o : Option Recalling). is_some o) runs);
-          adds_first = tt;
           keeps = λ opened marks shows. (made Recall sid asked reply ∷ [], inr (made Recall sid asked reply, refl, (sid, asked, reply, refl)), recall_called h opened marks old shows r machine runs sid asked reply goes left.store serves.added, (ap (λ (o : Option Recalling). is_some o) runs, tt), recall_calls_live h opened marks old shows r machine runs sid asked reply goes left.store);
           ends = tt;
         })
@@ -106,8 +103,6 @@ module _ {D M : Type 0} (g : disk.Ghosts D) (h : drive.Ghosts M) where
           limits = refl;
           drives = grown;
           runs = rest_runs tt old.system.store;
-          adds = adds_none (IsStepOf Recall) old (recall_left old machine (heard.Fetched performs.0) old.system.store drives) (inl refl) refl;
-          adds_first = tt;
           keeps = λ opened marks shows. ([], inl refl, recall_went h opened marks old shows r machine runs (Fetch entry) (heard.Fetched performs.0) tt goes drives grown (heard_of_fetch h old.drives entry on.0 on.1 on.2 (faults_in old.system.store.history) shows.marked.faults.each performs.0 on.3) (heard_of_missing h opened old.drives old.system.limits marks shows.marked.sealed entry on.0 on.1 on.2 performs.0 on.3), tt, recall_went_live h opened marks old shows r machine runs (Fetch entry) (heard.Fetched performs.0) tt goes drives);
           ends = tt;
         })
@@ -117,8 +112,6 @@ module _ {D M : Type 0} (g : disk.Ghosts D) (h : drive.Ghosts M) where
           limits = refl;
           drives = have_grown_itself h old.drives;
           runs = rest_runs tt old.system.store;
-          adds = adds_none (IsStepOf Recall) old (recall_left old machine heard.Nothing old.system.store old.drives) (inl refl) refl;
-          adds_first = tt;
           keeps = λ opened marks shows. ([], inl refl, recall_went h opened marks old shows r machine runs Idle heard.Nothing tt goes old.drives (have_grown_itself h old.drives) tt tt, tt, recall_went_live h opened marks old shows r machine runs Idle heard.Nothing tt goes old.drives);
           ends = tt;
         })
@@ -135,8 +128,6 @@ module _ {D M : Type 0} (g : disk.Ghosts D) (h : drive.Ghosts M) where
           limits = refl;
           drives = have_grown_itself h old.drives;
           runs = served_runs tt sid asked reply (migrate_waits old machine (Dm sid asked)).system left serves;
-          adds = adds_one (IsStepOf Migrate) (made Migrate sid asked reply) old (migrate_left old machine (heard.Dm reply) left.store old.drives) (inr (made Migrate sid asked reply, refl, (sid, asked, reply, refl))) serves.added (ap (λ (o : Option Migrating). is_some o) runs);
-          adds_first = tt;
           keeps = λ opened marks shows. (made Migrate sid asked reply ∷ [], inr (made Migrate sid asked reply, refl, (sid, asked, reply, refl)), migrate_called h opened marks old shows m machine runs sid asked reply goes left.store serves.added, (ap (λ (o : Option Migrating). is_some o) runs, tt), migrate_calls_live marks old m machine runs sid asked reply goes left.store);
           ends = tt;
         })
@@ -148,8 +139,6 @@ module _ {D M : Type 0} (g : disk.Ghosts D) (h : drive.Ghosts M) where
           limits = refl;
           drives = grown;
           runs = rest_runs tt old.system.store;
-          adds = adds_none (IsStepOf Migrate) old (migrate_left old machine (heard.Copied performs.0) old.system.store drives) (inl refl) refl;
-          adds_first = tt;
           keeps = λ opened marks shows. ([], inl refl, migrate_went h opened marks old shows m machine runs (Copy volume handle segment bytes) (heard.Copied performs.0) tt (names_copy h volume handle segment bytes performs.0 on.0 on.1 on.3) goes drives grown (heard_of_copy h old.drives volume segment handle bytes on.0 on.1 on.2 performs.0 on.3) (full_of_copy h law old.drives volume segment handle bytes goes.may.2.5 on.0 on.1 on.2 performs.0 on.3), tt, migrate_went_live marks old m machine runs (Copy volume handle segment bytes) (heard.Copied performs.0) tt goes drives);
           ends = tt;
         })
@@ -160,8 +149,6 @@ module _ {D M : Type 0} (g : disk.Ghosts D) (h : drive.Ghosts M) where
           limits = refl;
           drives = have_grown_itself h old.drives;
           runs = rest_runs tt old.system.store;
-          adds = adds_none (IsStepOf Migrate) old (migrate_left old machine heard.Nothing old.system.store old.drives) (inl refl) refl;
-          adds_first = tt;
           keeps = λ opened marks shows. ([], inl refl, migrate_went h opened marks old shows m machine runs Idle heard.Nothing tt tt goes old.drives (have_grown_itself h old.drives) tt tt, tt, migrate_went_live marks old m machine runs Idle heard.Nothing tt goes old.drives);
           ends = tt;
         })
@@ -173,8 +160,6 @@ module _ {D M : Type 0} (g : disk.Ghosts D) (h : drive.Ghosts M) where
     limits = refl;
     drives = have_grown_itself h old.drives;
     runs = rest_runs tt old.system.store;
-    adds = adds_none (IsStepOf daemon) old old (inl refl) refl;
-    adds_first = tt;
     keeps = λ opened marks shows. ([], inl refl, subst (λ (ms : List Mark). Shows h opened ms old) (sym (append-nil marks)) shows, tt, live_itself old marks);
     ends = tt;
   })
@@ -194,21 +179,11 @@ module _ {D M : Type 0} (g : disk.Ghosts D) (h : drive.Ghosts M) where
   lacked_runs : (s : Store D) → Runs g {T = Unit {0}} (Err stop.Memory) s s
   lacked_runs s = record { goes_on = goes_itself g s; works = λ working. working }
 
-  -- what its stop leaves in the history
-  stop_adds : (daemon : Daemon) (sid : Sid) (asked : DmCall) (old new : Run D M) → runs daemon (running old) ≡ true → (why : Stop) → KeepsStop sid asked why old.system.store new.system.store → AddsFirst (IsStepOf daemon) old new
-  stop_adds daemon sid asked old new runs stop.Memory keeps = adds_none (λ (more : List Mark). IsStepOf daemon more ⊎ (more ≡ [])) old new (inr refl) keeps.1
-  stop_adds daemon sid asked old new runs stop.Disk (failed, inl closed) = adds_none (λ (more : List Mark). IsStepOf daemon more ⊎ (more ≡ [])) old new (inr refl) closed.1
-  stop_adds daemon sid asked old new runs stop.Disk (failed, inr working) =
-      let m : Mark = made daemon sid asked (reply_of stop.Disk) in
-      adds_one (λ (more : List Mark). IsStepOf daemon more ⊎ (more ≡ [])) m old new (inl (inr (m, refl, (sid, asked, reply_of stop.Disk, refl)))) working.1 runs
-
   lacked : (daemon : Daemon) (why : Stop) (old new : Run D M) → why ≡ stop.Memory → new.system.limits ≡ old.system.limits → new.system.store ≡ old.system.store → HaveGrown h old.drives new.drives → Stopped daemon why old new
   lacked daemon why old new is limits store grown = record {
     limits = limits;
     drives = grown;
     runs = subst (λ (w : Stop). Runs g {T = Unit {0}} (Err w) old.system.store new.system.store) (sym is) (subst (λ (s : Store D). Runs g {T = Unit {0}} (Err stop.Memory) old.system.store s) (sym store) (lacked_runs old.system.store));
-    adds = tt;
-    adds_first = adds_none (λ (more : List Mark). IsStepOf daemon more ⊎ (more ≡ [])) old new (inr refl) (ap (λ (s : Store D). s.history) store);
     keeps = tt;
     ends = λ opened marks shows. no_more (IsStepOf daemon) opened marks old new shows limits (ap (λ (s : Store D). s.history) store) grown;
   }
@@ -221,8 +196,6 @@ module _ {D M : Type 0} (g : disk.Ghosts D) (h : drive.Ghosts M) where
         limits = refl;
         drives = have_grown_itself h old.drives;
         runs = stopped_runs why sid asked (recall_waits old machine (Dm sid asked)).system left call;
-        adds = tt;
-        adds_first = stop_adds Recall sid asked old (recall_left old machine heard.Nothing left.store old.drives) (ap (λ (o : Option Recalling). is_some o) runs) why call.kept;
         keeps = tt;
         ends = λ opened marks shows. kept opened marks shows left.store why call.kept;
       })
@@ -249,8 +222,6 @@ module _ {D M : Type 0} (g : disk.Ghosts D) (h : drive.Ghosts M) where
         limits = refl;
         drives = have_grown_itself h old.drives;
         runs = stopped_runs why sid asked (migrate_waits old machine (Dm sid asked)).system left call;
-        adds = tt;
-        adds_first = stop_adds Migrate sid asked old (migrate_left old machine heard.Nothing left.store old.drives) (ap (λ (o : Option Migrating). is_some o) runs) why call.kept;
         keeps = tt;
         ends = λ opened marks shows. kept opened marks shows left.store why call.kept;
       })

@@ -374,10 +374,6 @@ module _ {M : Type 0} (g : drive.Ghosts M) (k : Known) (drives : List M) (faults
       (λ (same : IsKnownAs (now r) k). let may = goes.may.1 in lost_as (now r) k r.machine.asked (told_next r.next) may.0 same may.1 may.3)
       shows.known
 
-  -- it copies nothing
-  pub recall_copies_nothing : (volume : ℕ) (handle : Handle) (segment : ℕ) (bytes : List ℕ) → GoesOn r.machine (told_next r.next) (Copy volume handle segment bytes) machine → ⊥
-  recall_copies_nothing volume handle segment bytes goes = goes.may
-
   pub recall_rests : (act : Act) (told : Heard) → IsNoCall act → GoesOn r.machine (told_next r.next) act machine
       → (IsAtStart machine.known.seat machine.asked told × (machine.known.hand ≡ None)) ⊎ IsKnownAs (knows_by machine.known machine.asked told) k
   recall_rests act told no_call goes = ⊎_elim

@@ -9,7 +9,7 @@ use Rattle.disk_model.specs.declared.device.Disk as disk
 use Rattle.disk_model.specs.Moments.{Tells}
 use Rattle.media_model.specs.declared.drive.Drive as drive
 use Rattle.hsm_types.specs.Rights.{Rights}
-use Rattle.hsm_types.specs.Sessions.{lives}
+use Rattle.hsm_types.specs.Sessions.{lives, queue_of}
 use Rattle.hsm_types.specs.declared.daemons.Act.{Act}
 use Rattle.hsm_types.specs.declared.daemons.Daemon.{Daemon}
 use Rattle.hsm_types.specs.declared.daemons.Daemon.TheVariants.{Recall, Migrate}
@@ -69,7 +69,7 @@ use Rattle.marked_history.proofs.Lists.{first_in, later_in, first_or_rest, all_t
 use Rattle.hsm_replay.proofs.Rounds.{marked_since}
 use Rattle.hsm_replay.proofs.TurnedAway.{IsRefusedOne, EndsRefused, ends_away, shown_append, recall_away, migrate_away, recall_turned_away}
 use Rattle.hsm_replay.proofs.TurnedAway.{migrate_turned_away, recall_told, migrate_told}
-use Rattle.marked_history.proofs.StillSo.{lives_still, spacious_still}
+use Rattle.marked_history.proofs.StillSo.{lives_still, empty_still, spacious_still}
 use Rattle.marked_history.proofs.Waiting.{ready_waits, settled_waits}
 
 -- ---- what marks tell
@@ -300,11 +300,27 @@ module _ {D M : Type 0} (h : drive.Ghosts M) (opened : List M) (marks : List Mar
     still_lives : (sid : Sid) → Contains both (no_more sid) → lives sid (behind (entries_of marks)).sessions ≡ true
     still_lives sid there = subst (λ (es : List Entry). lives sid (behind es).sessions ≡ true) (sym shows.marked.entries) (lives_still (superblock_of s.system.store.opened) (first_of s) s.system.store.history from both run.exact ends_with_both turns.quiet sid there)
 
+    -- nor is a message left in its queue
+    still_empty : (sid : Sid) → Contains both (no_more sid) → queue_of sid (behind (entries_of marks)).sessions ≡ []
+    still_empty sid there = subst (λ (es : List Entry). queue_of sid (behind es).sessions ≡ []) (sym shows.marked.entries) (empty_still (superblock_of s.system.store.opened) (first_of s) s.system.store.history from both run.exact ends_with_both turns.quiet sid there)
+
+    in_recall_turn : (rests : RecallRests k.recall.seat turns.recall_turn) → Contains both (no_more rests.sid)
+    in_recall_turn rests = Contains-append_left turns.recall_turn turns.migrate_turn (no_more rests.sid) (ends_with turns.recall_turn rests.first rests.sid rests.ends)
+
+    in_migrate_turn : (rests : MigrateRests k.migrate.seat turns.migrate_turn) → Contains both (no_more rests.sid)
+    in_migrate_turn rests = Contains-append_right turns.recall_turn turns.migrate_turn (no_more rests.sid) (ends_with turns.migrate_turn rests.first rests.sid rests.ends)
+
     recall_lives : (rests : RecallRests k.recall.seat turns.recall_turn) → lives rests.sid (behind (entries_of marks)).sessions ≡ true
-    recall_lives rests = still_lives rests.sid (Contains-append_left turns.recall_turn turns.migrate_turn (no_more rests.sid) (ends_with turns.recall_turn rests.first rests.sid rests.ends))
+    recall_lives rests = still_lives rests.sid (in_recall_turn rests)
 
     migrate_lives : (rests : MigrateRests k.migrate.seat turns.migrate_turn) → lives rests.sid (behind (entries_of marks)).sessions ≡ true
-    migrate_lives rests = still_lives rests.sid (Contains-append_right turns.recall_turn turns.migrate_turn (no_more rests.sid) (ends_with turns.migrate_turn rests.first rests.sid rests.ends))
+    migrate_lives rests = still_lives rests.sid (in_migrate_turn rests)
+
+    recall_empty : (rests : RecallRests k.recall.seat turns.recall_turn) → queue_of rests.sid (behind (entries_of marks)).sessions ≡ []
+    recall_empty rests = still_empty rests.sid (in_recall_turn rests)
+
+    migrate_empty : (rests : MigrateRests k.migrate.seat turns.migrate_turn) → queue_of rests.sid (behind (entries_of marks)).sessions ≡ []
+    migrate_empty rests = still_empty rests.sid (in_migrate_turn rests)
 
     -- with enough space the store isn't crowded
     not_crowded : HadSpace s.system.limits turns.migrate_turn → IsCrowded s.system.limits (superblock_of s.system.store.opened) (behind (entries_of marks)) → ⊥
@@ -343,11 +359,11 @@ module _ {D M : Type 0} (h : drive.Ghosts M) (opened : List M) (before part : Li
   module _ (g : disk.Ghosts D) (kept : IsKept g s.system.store) (working : s.system.store.files.failed ≡ false) where
     recall_has : EndsRefused turns.recall_turn ⊎ RecallRests known.recall.seat turns.recall_turn → IsAtWork Recall known left part ⊎ IsTurnedAway Recall part
     recall_has (inl refused) = inr (recall_turned_away s.system.limits before part shows.marked.served turns.recall_turn turns.migrate_turn ends refused)
-    recall_has (inr rests) = inl (record { sid = rests.sid; seated = rests.seated; live = recall_lives h opened whole s shows from turns all_ends g kept working rests; told = recall_told part turns.recall_turn turns.migrate_turn ends rests.sid rests.first rests.ends })
+    recall_has (inr rests) = inl (record { sid = rests.sid; seated = rests.seated; live = recall_lives h opened whole s shows from turns all_ends g kept working rests; empty = recall_empty h opened whole s shows from turns all_ends g kept working rests; told = recall_told part turns.recall_turn turns.migrate_turn ends rests.sid rests.first rests.ends })
 
     migrate_has : EndsRefused turns.migrate_turn ⊎ MigrateRests known.migrate.seat turns.migrate_turn → IsAtWork Migrate known left part ⊎ IsTurnedAway Migrate part
     migrate_has (inl refused) = inr (migrate_turned_away s.system.limits before part shows.marked.served turns.recall_turn turns.migrate_turn ends refused)
-    migrate_has (inr rests) = inl (record { sid = rests.sid; seated = rests.seated; live = migrate_lives h opened whole s shows from turns all_ends g kept working rests; told = migrate_told part turns.recall_turn turns.migrate_turn ends rests.sid rests.first rests.ends })
+    migrate_has (inr rests) = inl (record { sid = rests.sid; seated = rests.seated; live = migrate_lives h opened whole s shows from turns all_ends g kept working rests; empty = migrate_empty h opened whole s shows from turns all_ends g kept working rests; told = migrate_told part turns.recall_turn turns.migrate_turn ends rests.sid rests.first rests.ends })
 
     each_works : (daemon : Daemon) → runs daemon (running s) ≡ true → IsAtWork daemon known left part ⊎ IsTurnedAway daemon part
     each_works Recall runs = recall_has (recall_rests h opened whole s shows from turns all_ends runs)

@@ -149,22 +149,12 @@ module _ {D M : Type 0} (g : drive.Ghosts M) where
   abbrev pub Ends : (List Mark → Type 0) → Run D M → Run D M → Type 0
   Ends IsPart old new = (opened : List M) (marks : List Mark) → Shows opened marks old → (more : List Mark) × (IsPart more ⊎ (more ≡ [])) × IsMarked opened (marks ++ more) new × AreByRunning (running old) more × LiveUntil old marks more
 
--- ---- what is added
+-- ---- what is run
 
--- The history has more entries, those of marks of that kind. Calls among them are made by daemons that run.
-abbrev pub Adds : {D M : Type 0} → (List Mark → Type 0) → Run D M → Run D M → Type 0
-Adds IsPart old new = (more : List Mark) × IsPart more × (new.system.store.history ≡ old.system.store.history ++ entries_of more) × AreByRunning (running old) more
-
--- Of a run that was stopped there may be none.
-abbrev pub AddsFirst : {D M : Type 0} → (List Mark → Type 0) → Run D M → Run D M → Type 0
-AddsFirst IsPart old new = Adds (λ (more : List Mark). IsPart more ⊎ (more ≡ [])) old new
-
--- What is run adds such entries to any history, and what marked histories show it leads on. The settings stay, and the drives are the same, used.
+-- What marked histories show is led on by what is run, with marks of that kind. The settings stay, and the drives are the same, used.
 pub record Moves {D M T : Type 0} (g : disk.Ghosts D) (h : drive.Ghosts M) (IsPart : List Mark → Type 0) (result : Result T Stop) (old new : Run D M) : Type 0 where
   pub limits : new.system.limits ≡ old.system.limits
   pub drives : HaveGrown h old.drives new.drives
   pub runs : Runs g result old.system.store new.system.store
-  pub adds : OnOk result (Adds IsPart old new)
-  pub adds_first : OnErr result (AddsFirst IsPart old new)
   pub keeps : OnOk result (Keeps h IsPart old new)
   pub ends : OnErr result (Ends h IsPart old new)

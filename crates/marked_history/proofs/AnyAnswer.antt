@@ -1,5 +1,5 @@
 -- What an event leaves of the sessions, whatever the answer to it.
-use Rattle.std.proofs.Common.{ℕ, Bool, true, false, Option, None, Some}
+use Rattle.std.proofs.Common.{◌≡◌, ℕ, Bool, true, false, Option, None, Some, refl}
 use Rattle.std.specs.Prelude.{if◌then◌else◌}
 use Rattle.hsm_types.specs.Sessions.{SessionTable}
 use Rattle.hsm_types.specs.declared.calls.Reply.{Reply}
@@ -52,3 +52,13 @@ module _ (s : Superblock) (st : State) (P : SessionTable → Type 0) (still : P 
     -- any event may do that, or post the message of an access that it parks
     pub left_so : (who : Actor) (what : Action) (answer : Answer) → P (left_by s st who what answer).sessions
     left_so who what answer = unless_fault (is_fault answer) (left_answered s st who what answer) (answered_so who what answer)
+
+  -- an event of no session may post the message of an access that it parks
+  pub others_so : ((after : State) (c : ℕ) (reply : Reply) → PostsParked s st after c reply → P after.sessions) → (who : Actor) (what : Action) (answer : Answer) → ((x : Sid) → who ≡ Session x → ⊥) → P (left_by s st who what answer).sessions
+  others_so parks (Session x) what answer none = absurd (none x refl)
+  others_so parks (Caller c) (Issue call) answer none =
+      unless_fault (is_fault answer) (left_answered s st (Caller c) (Issue call) answer)
+      (parks (left_own s st (Caller c) (Issue call)) c (reply_to s st c (Issue call)) (posts_where s st c (flags_now st c (Issue call)) (objection_in s st c (Issue call)) (meant_in st c (Issue call))))
+  others_so parks (Caller c) Resume answer none =
+      unless_fault (is_fault answer) (left_answered s st (Caller c) Resume answer) (parks (left_own s st (Caller c) Resume) c (reply_to s st c Resume) (posts_where s st c (flags_now st c Resume) (objection_in s st c Resume) (meant_in st c Resume)))
+  others_so parks who what answer none = unless_fault (is_fault answer) (left_answered s st who what answer) still

@@ -1,13 +1,11 @@
--- In a served history each answer that names a fault of a medium is caused: what the recall daemon knows was told after the access was parked.
+-- What the recall daemon knows by entries of a history was told after the access was parked. So a fault of the object of a segment that it needs is caused.
 use Rattle.std.proofs.Common.{◌≡◌, ℕ, Bool, true, false, not, ◌==◌, List, [], ◌∷◌, ◌++◌, Option, None, Some, refl, sym, ◌∙◌, ap, subst, append_assoc}
-use Rattle.std.proofs.Common.{append-nil}
 use Rattle.std.proofs.lemmas.List.Elements.{All-nil, All-head, All-tail, All-weaker, All-filter, All-contains, All-contains_itself}
 use Rattle.std.specs.Prelude.{◌^◌, IfSome, if◌then◌else◌, nat_lt, Contains}
 use Rattle.std.specs.List.{All, filter_map, enumerate_from}
 use Rattle.std.specs.Option.{option_map}
 use Rattle.hsm_types.specs.Sessions.{no_sessions}
-use Rattle.hsm_types.specs.declared.daemons.Daemon.{Daemon}
-use Rattle.hsm_types.specs.declared.daemons.Daemon.TheVariants.{Recall, Migrate}
+use Rattle.hsm_types.specs.declared.daemons.Daemon.TheVariants.{Recall}
 use Rattle.hsm_types.specs.declared.dm.DmCall.{DmCall}
 use Rattle.hsm_types.specs.declared.dm.DmCall.TheVariants as call
 use Rattle.hsm_types.specs.declared.dm.DmRefusal.{DmRefusal}
@@ -29,23 +27,20 @@ use Rattle.plain_model.specs.declared.entries.Actor.TheVariants.{Session}
 use Rattle.plain_model.specs.declared.entries.Answer.{Answer}
 use Rattle.plain_model.specs.declared.entries.Answer.TheVariants.{Dm as Told}
 use Rattle.plain_model.specs.declared.entries.Entry.{Entry}
-use Rattle.plain_model.specs.State.{Held, State, just_opened}
+use Rattle.plain_model.specs.State.{State}
 use Rattle.plain_model.specs.Exact.{ExactSeen, state_by}
-use Rattle.plain_model.proofs.Histories.{state_by-push}
 use Rattle.event_msgs.specs.Reading.{told}
-use Rattle.hsm_policy.specs.Settings.{Numbers}
 use Rattle.daemon_session.specs.declared.events.Event.{Event}
 use Rattle.daemon_session.specs.declared.events.Kept.{Kept}
 use Rattle.recall_daemon.specs.Known.{Known, Hand, nothing_known, taken, handling, asks, back_in, failed, unrestored, unanswered, hears}
-use Rattle.recall_daemon.specs.Known.{away_at, away_in, Holds}
+use Rattle.recall_daemon.specs.Known.{away_at, away_in, Holds, IsNeeded}
 use Rattle.recall_daemon.specs.declared.away.Away.{Away}
 use Rattle.migrate_daemon.specs.Machine.{answer_of}
 use Rattle.hsm_core.specs.Answers.{entry_of}
-use Rattle.hsm_core.specs.Packed.{HandsBy, ArePacked}
+use Rattle.hsm_core.specs.Packed.{HandsBy}
 use Rattle.recall_daemon.proofs.Outcomes.{Ends, failed_so, unrestored_so, unanswered_so}
-use Rattle.marked_history.specs.Marks.{Mark, entries_of, Exchange, exchange_by}
-use Rattle.marked_history.specs.Served.{Shown, nothing_shown, with_entry, learned, IsTold, RecallMay, IsServedBy, ServedFrom}
-use Rattle.marked_history.specs.Caused.{WasParked, IsCausedBy, ServedIsCaused}
+use Rattle.marked_history.specs.Served.{IsOf, IsTold}
+use Rattle.marked_history.specs.Caused.{WasParked, IsCausedBy}
 use Rattle.marked_history.proofs.Handing.{IsOfParked, parked_more, each_parked}
 use Rattle.marked_history.proofs.Remembering.{stays, cons_each, TellsOnly, recall_kept, tells_each}
 
@@ -71,11 +66,6 @@ abbrev pub RestsOn : Known → Sid → DmCall → Type 0
 RestsOn k sid (call.RequestRight t h right) = IsTold k.seat.kept t h
 RestsOn k sid (call.GetAllocInfo t h) = (k.seat.sid ≡ Some sid) × ((hand : Hand) × Holds k t h hand)
 RestsOn k sid c = Unit {0}
-
-rests_on : (k : Known) (sid : Sid) (c : DmCall) → RecallMay k sid c → RestsOn k sid c
-rests_on k sid (call.RequestRight t h right) may = may.2
-rests_on k sid (call.GetAllocInfo t h) may = (may.0.session, may.1)
-rests_on k sid c may = tt
 
 -- migration's answers name no fault
 pub no_fault : (punched : Bool) (fault : Fault) → Media fault ≡ answer_of punched → ⊥
@@ -259,45 +249,26 @@ module _ (s : Superblock) (st : State) where
   GivenBy before (Session sid) (Dm c) (Told answer) = TellsOnly (EventOf before) Recall c answer
   GivenBy before who what answer = Unit {0}
 
-  module _ (limits : Numbers) (before : List Entry) (k : Shown) (is : IsKnownBy before k.recall) where
-    others_entry : (found : Option Exchange) → (with_entry limits (Some Migrate) found k).recall ≡ k.recall
-    others_entry None = refl
-    others_entry (Some x) = refl
-
-    entry_by : (by : Option Daemon) (who : Actor) (what : Action) (answer : Answer) → GivenBy before who what answer → IsServedBy by k (record { entry = entry_of who what answer; by = by })
-        → IsKnownBy (before ++ entry_of who what answer ∷ []) (with_entry limits by (exchange_by who what answer) k).recall
-    entry_by None who what answer given served = known_more before _ k.recall is
-    entry_by (Some Migrate) who what answer given served = subst (IsKnownBy (before ++ entry_of who what answer ∷ [])) (sym (others_entry (exchange_by who what answer))) (known_more before _ k.recall is)
-    entry_by (Some Recall) (Session sid) (Dm c) (Told answer) given served = call_by before sid k.recall is c answer given (rests_on k.recall sid c served)
-    entry_by (Some Recall) who what answer given served = absurd served
-
   -- ---- causes
 
-  pub cause_of : (es : List Entry) (k : Known) (sid : Sid) (t : Token) (fault : Fault) → IsKnownBy es k → RecallMay k sid (call.Respond t (Media fault)) → IsCausedBy s st es sid t fault
-  cause_of es k sid t fault is may =
-      let hand : Hand = may.1.0 in
-      let known : IsHandOf es k.seat.sid hand = subst (λ (x : Option Hand). IfSome x (IsHandOf es k.seat.sid)) may.1.1 is.hand in
-      let needed = may.1.3.1 in
-      let told_all : AreTold es sid hand.token hand.handle (Some needed.away) = subst (AreTold es sid hand.token hand.handle) needed.told (known.told sid may.0.session) in
-      let own : WasTold es sid hand.token hand.handle may.1.3.0 = All-contains (WasTold es sid hand.token hand.handle) needed.away may.1.3.0 told_all needed.needs.0 in
+  -- a fault of the object of a needed segment
+  pub cause_of : (es : List Entry) (k : Known) (sid : Sid) (t : Token) (fault : Fault) (hand : Hand) (a : Away) → IsKnownBy es k → k.seat.sid ≡ Some sid → k.hand ≡ Some hand → hand.token ≡ t → IsNeeded k.seat.kept hand a → IsOf a.entry fault → IsCausedBy s st es sid t fault
+  cause_of es k sid t fault hand a is session held same needed names =
+      let known : IsHandOf es k.seat.sid hand = subst (λ (x : Option Hand). IfSome x (IsHandOf es k.seat.sid)) held is.hand in
+      let told_all : AreTold es sid hand.token hand.handle (Some needed.away) = subst (AreTold es sid hand.token hand.handle) needed.told (known.told sid session) in
+      let own : WasTold es sid hand.token hand.handle a = All-contains (WasTold es sid hand.token hand.handle) needed.away a told_all needed.needs.0 in
       record {
         before = own.before;
         token = own.token;
         handle = hand.handle;
         segments = own.segments;
         rest = own.rest;
-        entry = may.1.3.0.entry;
+        entry = a.entry;
         parted = own.parted;
-        parked = subst (λ (x : Token). WasParked s st own.before x hand.handle) may.1.2 own.parked;
+        parked = subst (λ (x : Token). WasParked s st own.before x hand.handle) same own.parked;
         away = own.away;
-        names = may.1.3.2;
+        names = names;
       }
-
-  served_cause : (es : List Entry) (k : Shown) (by : Option Daemon) (sid : Sid) (t : Token) (fault : Fault) → IsKnownBy es k.recall
-      → IsServedBy by k (record { entry = entry_of (Session sid) (Dm (call.Respond t (Media fault))) (Told reply.Done); by = by }) → IsCausedBy s st es sid t fault
-  served_cause es k None sid t fault is served = absurd served
-  served_cause es k (Some Recall) sid t fault is served = cause_of es k.recall sid t fault is served
-  served_cause es k (Some Migrate) sid t fault is served = absurd (no_fault k.migrate.punched fault served.2)
 
   -- ---- whole histories
 
@@ -307,25 +278,3 @@ module _ (s : Superblock) (st : State) where
         tells_each (EventOf before) Recall (IsOfParked s st before) (λ m h of own has. subst (λ (found : Option Handle). IfSome found (λ x. WasParked s st before m.token x)) has of) (state_by s st before).sessions sid c answer
         (each_parked s st es none exact before (entry_of (Session sid) (Dm c) (Told answer)) rest is) hands
     given_by before who what answer rest is hands = tt
-
-  module _ (limits : Numbers) (es : List Entry) (none : st.sessions ≡ no_sessions) (exact : ExactSeen ⊥ s st es) where
-    caused_on : (done : List Entry) (k : Shown) (marks : List Mark) → es ≡ done ++ entries_of marks → ArePacked s (state_by s st done) (entries_of marks) → IsKnownBy done k.recall → ServedFrom limits k marks
-        → (before : List Entry) (sid : Sid) (t : Token) (fault : Fault) (rest : List Entry) → entries_of marks ≡ before ++ entry_of (Session sid) (Dm (call.Respond t (Media fault))) (Told reply.Done) ∷ rest
-        → IsCausedBy s st (done ++ before) sid t fault
-    caused_on done k [] whole packed known served [] sid t fault rest is = cc
-    caused_on done k [] whole packed known served (b ∷ before) sid t fault rest is = cc
-    caused_on done k (m ∷ marks) whole packed known served [] sid t fault rest is =
-        let same : m.entry ≡ entry_of (Session sid) (Dm (call.Respond t (Media fault))) (Told reply.Done) = cc in
-        subst (λ (l : List Entry). IsCausedBy s st l sid t fault) (sym (append-nil done))
-        (served_cause done k m.by sid t fault known (subst (λ (e : Entry). IsServedBy m.by k (record { entry = e; by = m.by })) same served.0))
-    caused_on done k (m ∷ marks) whole packed known served (b ∷ before) sid t fault rest is =
-        let same : m.entry ≡ b = cc in
-        let later : entries_of marks ≡ before ++ entry_of (Session sid) (Dm (call.Respond t (Media fault))) (Told reply.Done) ∷ rest = cc in
-        let known_next : IsKnownBy (done ++ m.entry ∷ []) (learned limits k m).recall = entry_by limits done k known m.by m.entry.actor m.entry.action m.entry.answer (given_by es none exact done m.entry.actor m.entry.action m.entry.answer (entries_of marks) whole packed.0) served.0 in
-        subst (λ (l : List Entry). IsCausedBy s st l sid t fault) (append_assoc done (m.entry ∷ []) before ∙ ap (λ (e : Entry). done ++ e ∷ before) same)
-        (caused_on (done ++ m.entry ∷ []) (learned limits k m) marks (whole ∙ sym (append_assoc done (m.entry ∷ []) (entries_of marks)))
-        (subst (λ (y : State). ArePacked s y (entries_of marks)) (sym (state_by-push s st done m.entry)) packed.1) known_next served.1 before sid t fault rest later)
-
-pub served_is_caused : (limits : Numbers) (s : Superblock) (base : ℕ) (h : Held) (marks : List Mark) (es : List Entry) → ServedIsCaused limits s base h marks es
-served_is_caused limits s base h marks es same served run packed before sid t fault rest is =
-    caused_on s (just_opened base h) limits es refl run.exact [] nothing_shown marks (sym same) (subst (λ (l : List Entry). ArePacked s (just_opened base h) l) (sym same) packed) (nothing_by s (just_opened base h) []) served before sid t fault rest (same ∙ is)

@@ -3,15 +3,22 @@ use Rattle.std.proofs.Common.{◌≡◌, ℕ, ◌<◌, Bool, true, false, List, 
 use Rattle.std.proofs.Common.{append_assoc, append-nil, arith}
 use Rattle.std.proofs.lemmas.Bool.{eq-eqb}
 use Rattle.std.specs.Prelude.{◌⊎◌, IfSome, if◌then◌else◌}
-use Rattle.hsm_types.specs.Messages.{no_token, user_message}
+use Rattle.std.specs.Option.{option_map}
+use Rattle.hsm_types.specs.Daemons.{kinds_of}
+use Rattle.hsm_types.specs.Messages.{no_token, takes, user_message}
+use Rattle.hsm_types.specs.Refusals.{first_refusal}
 use Rattle.hsm_types.specs.Sessions.{SessionTable, no_sessions, posted}
 use Rattle.hsm_types.specs.declared.calls.Call.{Call}
+use Rattle.hsm_types.specs.declared.calls.Call.TheVariants.{Read, Write, Truncate}
 use Rattle.hsm_types.specs.declared.calls.CallRefusal.{CallRefusal}
 use Rattle.hsm_types.specs.declared.calls.Reply.{Reply}
 use Rattle.hsm_types.specs.declared.calls.Reply.TheVariants.{Parked}
+use Rattle.hsm_types.specs.declared.daemons.Daemon.{Daemon}
+use Rattle.hsm_types.specs.declared.daemons.Daemon.TheVariants.{Recall, Migrate}
 use Rattle.hsm_types.specs.declared.dm.DmCall.{DmCall}
 use Rattle.hsm_types.specs.declared.dm.DmCall.TheVariants.{CreateSession, DestroySession, SetDisp, GetEvents, Respond, CreateUserEvent, SendMsg}
 use Rattle.hsm_types.specs.declared.dm.DmRefusal.{DmRefusal}
+use Rattle.hsm_types.specs.declared.dm.Kind.{Kind}
 use Rattle.hsm_types.specs.declared.keys.FileKey.{FileKey}
 use Rattle.hsm_types.specs.declared.keys.Handle.{Handle}
 use Rattle.hsm_types.specs.declared.keys.Sid.{Sid}
@@ -25,12 +32,14 @@ use Rattle.plain_model.specs.declared.entries.Actor.TheVariants.{Caller, Session
 use Rattle.plain_model.specs.declared.entries.Answer.{Answer}
 use Rattle.plain_model.specs.declared.entries.Answer.TheVariants.{Call as Replied}
 use Rattle.plain_model.specs.declared.entries.Entry.{Entry}
+use Rattle.plain_model.specs.declared.facts.NoRoom.{NoRoom}
+use Rattle.plain_model.specs.Accesses.{kind_of}
 use Rattle.plain_model.specs.Effects.{change_of}
 use Rattle.plain_model.specs.Ledger.{Meant, Fixed, Means, next_token}
 use Rattle.plain_model.specs.Seen.{blanked}
 use Rattle.plain_model.specs.State.{Held, Flags, State, noted, changed}
 use Rattle.plain_model.specs.Verdict.{Blocks, Posts, Lacks, Verdict, verdict, reply_by, message_of, flags_now, objection_in, meant_in, reply_where, reply_to}
-use Rattle.plain_model.specs.Verdict.{left_by_verdict, state_where}
+use Rattle.plain_model.specs.Verdict.{posts, conflicting, touching, needing, without_room, lacking, facts_of, left_by_verdict, state_where}
 use Rattle.plain_model.specs.Services.{dm_judged, dm_state_where}
 use Rattle.plain_model.specs.Faults.{is_fault}
 use Rattle.plain_model.specs.Exact.{IsOwn, IsAnswerSeen, left_own, left_answered, left_by, ExactSeen, state_by}
@@ -76,6 +85,43 @@ module _ (P : Message → Type 0) (own : (t : Token) (body : List ℕ) → P (us
   pub told_each : Each P st.sessions → (why : Option DmRefusal) (s : Superblock) (sid : Sid) (call : DmCall) → Each P (dm_state_where why s st sid call).sessions
   told_each each why s sid call = made_told P st each why s sid call (λ none. makes_any call)
 
+-- ---- which events are posted
+
+-- a daemon takes the kind
+abbrev pub IsDaemonsKind : Kind → Type 0
+IsDaemonsKind k = (d : Daemon) × (takes (kinds_of d) k ≡ true)
+
+abbrev PostsWanted : Verdict → Type 0
+PostsWanted (Some (Posts k)) = IsDaemonsKind k
+PostsWanted v = Unit {0}
+
+first_wanted : (v : Verdict) (rest : List Verdict) → PostsWanted v → PostsWanted (first_refusal rest) → PostsWanted (first_refusal (v ∷ rest))
+first_wanted None rest is later = later
+first_wanted (Some ruling) rest is later = is
+
+blocks_wanted : (found : Option Token) → PostsWanted (option_map Blocks found)
+blocks_wanted None = tt
+blocks_wanted (Some t) = tt
+
+touched_wanted : (b : Bool) (call : Call) → PostsWanted (posts b (kind_of call))
+touched_wanted false call = tt
+touched_wanted true (Read name offset len) = (Recall, refl)
+touched_wanted true (Write name offset bytes) = (Recall, refl)
+touched_wanted true (Truncate name size) = (Recall, refl)
+touched_wanted true call = tt
+
+room_wanted : (asks : Bool) (found : Option NoRoom) → PostsWanted (without_room asks found)
+room_wanted asks None = tt
+room_wanted true (Some room) = (Migrate, refl)
+room_wanted false (Some room) = tt
+
+verdict_wanted : (s : Superblock) (st : State) (fl : Flags) (k : FileKey) (call : Call) → PostsWanted (verdict s st fl k call)
+verdict_wanted s st fl k call =
+    let facts = facts_of s st.held k call in
+    first_wanted (conflicting st.rights k call) (touching fl facts call ∷ needing fl facts call ∷ lacking fl facts st.sessions ∷ []) (blocks_wanted _)
+    (first_wanted (touching fl facts call) (needing fl facts call ∷ lacking fl facts st.sessions ∷ []) (touched_wanted _ call)
+    (first_wanted (needing fl facts call) (lacking fl facts st.sessions ∷ []) (touched_wanted _ call) (first_wanted (lacking fl facts st.sessions) [] (room_wanted _ _) tt)))
+
 -- ---- a caller's event
 
 -- the message of an access that the event has parked is posted
@@ -85,6 +131,7 @@ pub record HasParked (s : Superblock) (st after : State) (c : ℕ) (reply : Repl
   pub posts : after.sessions ≡ posted message st.sessions
   pub has : message.handle ≡ Some handle
   pub real : 0 < message.token.0
+  pub wanted : IsDaemonsKind message.kind
   pub parks : reply ≡ Parked message.token
   pub waits : WaitsOn s after c message.token handle
 
@@ -93,16 +140,17 @@ abbrev pub PostsParked : Superblock → State → State → ℕ → Reply → Ty
 PostsParked s st after c reply = (after.sessions ≡ st.sessions) ⊎ HasParked s st after c reply
 
 module _ (s : Superblock) (st : State) (c : ℕ) (fl : Flags) where
-  posts_verdict : (k : FileKey) (call : Call) (v : Verdict) → PostsParked s st (left_by_verdict s st c fl k call v) c (reply_by st k call v)
-  posts_verdict k call None = inl refl
-  posts_verdict k call (Some (Blocks t)) = inl refl
-  posts_verdict k call (Some (Lacks need free)) = inl refl
-  posts_verdict k call (Some (Posts kind)) = inr (record {
+  posts_verdict : (k : FileKey) (call : Call) (v : Verdict) → PostsWanted v → PostsParked s st (left_by_verdict s st c fl k call v) c (reply_by st k call v)
+  posts_verdict k call None wanted = inl refl
+  posts_verdict k call (Some (Blocks t)) wanted = inl refl
+  posts_verdict k call (Some (Lacks need free)) wanted = inl refl
+  posts_verdict k call (Some (Posts kind)) wanted = inr (record {
     message = message_of s st k call kind;
     handle = record { fsid = s.fsid; key = k };
     posts = refl;
     has = refl;
     real = omega arith;
+    wanted = wanted;
     parks = refl;
     waits = record {
       access = record { key = k; call = call; token = Some (next_token st.ledger); answer = None };
@@ -115,7 +163,7 @@ module _ (s : Superblock) (st : State) (c : ℕ) (fl : Flags) where
   pub posts_where : (why : Option CallRefusal) (m : Meant) → PostsParked s st (state_where s st c fl why m) c (reply_where s st fl why m)
   posts_where why (Fixed reply) = inl refl
   posts_where (Some why) (Means k call) = inl refl
-  posts_where None (Means k call) = posts_verdict k call (verdict s st fl k call)
+  posts_where None (Means k call) = posts_verdict k call (verdict s st fl k call) (verdict_wanted s st fl k call)
 
 -- ---- any event
 

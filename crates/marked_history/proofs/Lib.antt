@@ -17,8 +17,10 @@ mod KeepingAll
 mod Granting
 mod Freeing
 pub mod TellingOne
+pub mod DaemonsTables
+pub mod DaemonsCalls
+pub mod NoneWaiting
 pub mod Ways
 pub mod Informing
-mod Coming
 pub mod Waiting
 pub mod StillSo

@@ -38,7 +38,7 @@ zip_each P Q R both (x ∷ l) p q = All-cons R x l (both x (All-head P x l p) (A
 -- ---- one session is changed
 
 module _ (change : LiveSession → LiveSession) where
-  changed_other : (sid x : Sid) → (sid.0 ≡ x.0 → ⊥) → (live : Live) → lookup (same_sid sid) (change_live x change live) ≡ lookup (same_sid sid) live
+  pub changed_other : (sid x : Sid) → (sid.0 ≡ x.0 → ⊥) → (live : Live) → lookup (same_sid sid) (change_live x change live) ≡ lookup (same_sid sid) live
   changed_other sid x apart [] = refl
   changed_other sid x apart (e ∷ rest) = by (same_sid x e.0) (same_sid sid e.0) refl refl (changed_other sid x apart rest)
     where
@@ -49,7 +49,7 @@ module _ (change : LiveSession → LiveSession) where
       by false true own mine later = rw mine refl
       by false false own mine later = rw mine later
 
-  changed_own : (sid : Sid) (live : Live) → lookup (same_sid sid) (change_live sid change live) ≡ option_map change (lookup (same_sid sid) live)
+  pub changed_own : (sid : Sid) (live : Live) → lookup (same_sid sid) (change_live sid change live) ≡ option_map change (lookup (same_sid sid) live)
   changed_own sid [] = refl
   changed_own sid (e ∷ rest) = by (same_sid sid e.0) refl (changed_own sid rest)
     where
@@ -84,7 +84,7 @@ below sid low high (e ∷ rest) h le =
     let other : same_sid sid e.0 ≡ false = ne_eqb sid.0 e.0.0 (λ same. omega arith) in
     rw other (below sid e.0.0 high rest h.2 (omega arith))
 
-above : (sid : Sid) (low high : ℕ) (live : Live) → Ascend low high live → high < sid.0 → lookup (same_sid sid) live ≡ None
+pub above : (sid : Sid) (low high : ℕ) (live : Live) → Ascend low high live → high < sid.0 → lookup (same_sid sid) live ≡ None
 above sid low high [] h lt = refl
 above sid low high (e ∷ rest) h lt =
     let within = h.1 in
@@ -114,7 +114,7 @@ pushed_other sid next s (e ∷ rest) apart =
     let later = pushed_other sid next s rest apart in
     elim (same_sid sid e.0) as (λ (c : Bool). cond c (Some e.1) (lookup (same_sid sid) (rest ++ (next, s) ∷ [])) ≡ cond c (Some e.1) (lookup (same_sid sid) rest)) [ true ↦ refl | false ↦ later ]
 
-pushed_own : (next : Sid) (s : LiveSession) (live : Live) → lookup (same_sid next) live ≡ None → lookup (same_sid next) (live ++ (next, s) ∷ []) ≡ Some s
+pub pushed_own : (next : Sid) (s : LiveSession) (live : Live) → lookup (same_sid next) live ≡ None → lookup (same_sid next) (live ++ (next, s) ∷ []) ≡ Some s
 pushed_own next s [] none = let own : same_sid next next ≡ true = eq-eqb next.0 next.0 refl in rw own refl
 pushed_own next s (e ∷ rest) none = elim (same_sid next e.0) as (λ (c : Bool). cond c (Some e.1) (lookup (same_sid next) rest) ≡ None → cond c (Some e.1) (lookup (same_sid next) (rest ++ (next, s) ∷ [])) ≡ Some s) [
   | true ↦ λ is. absurd cc

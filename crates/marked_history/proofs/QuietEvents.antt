@@ -6,7 +6,6 @@ use Rattle.std.specs.Option.{option_map}
 use Rattle.std.proofs.lemmas.Bool.{false≢true, and_parts}
 use Rattle.std.proofs.lemmas.List.Folds.{list_all-append}
 use Rattle.disk_model.specs.declared.device.Disk as disk
-use Rattle.hsm_types.specs.declared.calls.Call.{Call}
 use Rattle.hsm_types.specs.declared.calls.CallRefusal.TheVariants.{Disk}
 use Rattle.hsm_types.specs.declared.calls.Reply.{Reply}
 use Rattle.hsm_types.specs.declared.calls.Reply.TheVariants.{Blocked, Still, Refused}
@@ -18,14 +17,10 @@ use Rattle.hsm_types.specs.declared.keys.Sid.{Sid}
 use Rattle.hsm_types.specs.declared.stores.Superblock.{Superblock}
 use Rattle.plain_model.specs.declared.entries.Action.{Action}
 use Rattle.plain_model.specs.declared.entries.Action.TheVariants.{Issue, Resume, Dm, Commit}
-use Rattle.plain_model.specs.declared.entries.Actor.{Actor}
-use Rattle.plain_model.specs.declared.entries.Actor.TheVariants.{Caller, Session, Store as TheStore}
-use Rattle.plain_model.specs.declared.entries.Answer.{Answer}
-use Rattle.plain_model.specs.declared.entries.Answer.TheVariants.{Call as Replied, Dm as Told}
+use Rattle.plain_model.specs.declared.entries.Answer.TheVariants.{Dm as Told}
 use Rattle.plain_model.specs.declared.entries.Entry.{Entry}
 use Rattle.plain_model.specs.Effects.{change_of}
 use Rattle.plain_model.specs.Exact.{left_told}
-use Rattle.plain_model.specs.Faults.{Acts}
 use Rattle.plain_model.specs.Ledger.{Access as Pending, ledger_told}
 use Rattle.plain_model.specs.Services.{service}
 use Rattle.plain_model.specs.State.{State, noted, changed}
@@ -33,7 +28,7 @@ use Rattle.plain_model.specs.Verdict.{reply_to}
 use Rattle.access_park.specs.declared.access.Access.{Access}
 use Rattle.dm_service.specs.Tables.{waiting, pending_as}
 use Rattle.file_store.specs.Stores.{Store as FileStore, superblock_of}
-use Rattle.hsm_core.specs.Answers.{entry_of, IsTold}
+use Rattle.hsm_core.specs.Answers.{IsTold}
 use Rattle.hsm_core.specs.Ready.{ready_by, ready}
 use Rattle.hsm_core.specs.Store.{Store, state_of}
 use Rattle.hsm_core.specs.declared.store.Ready.{Ready}
@@ -51,32 +46,6 @@ loud e other = by_action e.action other
     by_action (Issue call) other = refl
     by_action Resume other = refl
     by_action Commit other = refl
-
-pub issue_loud : (c : ℕ) (call : Call) (answer : Answer) → is_quiet (entry_of (Caller c) (Issue call) answer) ≡ false
-issue_loud c call answer = refl
-
-pub resume_loud : (c : ℕ) (answer : Answer) → is_quiet (entry_of (Caller c) Resume answer) ≡ false
-resume_loud c answer = refl
-
-pub commit_loud : (answer : Answer) → is_quiet (entry_of TheStore Commit answer) ≡ false
-commit_loud answer = refl
-
--- so a quiet one is a session's call
-pub quiet_is_told : (actor : Actor) (action : Action) (answer : Answer) → Acts actor action → is_quiet_event action answer ≡ true
-    → (sid : Sid) × (call : DmCall) × (reply : DmReply) × (entry_of actor action answer ≡ entry_of (Session sid) (Dm call) (Told reply))
-quiet_is_told (Session sid) (Dm call) (Told reply) acts quiet = (sid, call, reply, refl)
-quiet_is_told (Session sid) (Dm call) (Replied reply) acts quiet = absurd (false≢true quiet)
-quiet_is_told (Session sid) (Issue call) answer acts quiet = absurd acts
-quiet_is_told (Session sid) Resume answer acts quiet = absurd acts
-quiet_is_told (Session sid) Commit answer acts quiet = absurd acts
-quiet_is_told (Caller c) (Dm call) answer acts quiet = absurd acts
-quiet_is_told (Caller c) (Issue call) answer acts quiet = absurd (false≢true quiet)
-quiet_is_told (Caller c) Resume answer acts quiet = absurd (false≢true quiet)
-quiet_is_told (Caller c) Commit answer acts quiet = absurd acts
-quiet_is_told TheStore (Dm call) answer acts quiet = absurd acts
-quiet_is_told TheStore (Issue call) answer acts quiet = absurd acts
-quiet_is_told TheStore Resume answer acts quiet = absurd acts
-quiet_is_told TheStore Commit answer acts quiet = absurd (false≢true quiet)
 
 -- ---- lists of entries
 

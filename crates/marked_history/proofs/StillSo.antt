@@ -31,7 +31,7 @@ use Rattle.marked_history.specs.Waiting.{no_more}
 use Rattle.marked_history.proofs.Granting.{refused_so}
 use Rattle.marked_history.proofs.Lists.{parts}
 use Rattle.marked_history.proofs.Seen.{over}
-use Rattle.marked_history.proofs.Waiting.{quiet_at}
+use Rattle.marked_history.proofs.Waiting.{quiet_at, told_again}
 
 -- ---- what an answer tells of the state before it
 
@@ -71,6 +71,13 @@ module _ (s : Superblock) (st : State) (es first turns : List Entry) (exact : Ex
       let p = parts turns (no_more sid) there in
       let here = quiet_at s st es first turns p.0 (no_more sid) p.1 exact whole quiet p.2 in
       ap (lives sid) here.same.0 ∙ told_live s (over here.now here.answer.seen) sid here.answer.exact
+
+  -- and no message is in its queue
+  pub empty_still : (sid : Sid) → Contains turns (no_more sid) → queue_of sid (state_by s st es).sessions ≡ []
+  empty_still sid there =
+      let p = parts turns (no_more sid) there in
+      let here = quiet_at s st es first turns p.0 (no_more sid) p.1 exact whole quiet p.2 in
+      ap (queue_of sid) here.same.0 ∙ told_again s (over here.now here.answer.seen) sid here.answer.exact
 
   -- a store of which a session was told so of the space isn't crowded
   pub spacious_still : (limits : Numbers) (sid : Sid) (space : Space) → Contains turns (entry_of (Session sid) (Dm GetSpace) (Told (TheSpace space.used space.total))) → is_above limits.high (Some space) ≡ false → IsCrowded limits s (state_by s st es) → ⊥

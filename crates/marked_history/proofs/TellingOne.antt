@@ -67,11 +67,14 @@ Register = ℕ → Message
 abbrev pub unknown : Message
 unknown = user_message no_token []
 
+-- what a message tells, but for its token, and for the body of a session's own
+abbrev pub told_in : Message → Message
+told_in m = record m { token = no_token; body = [] }
+
 -- as the register has it
 pub record IsListed (f : Register) (top : ℕ) (m : Message) : Type 0 where
   pub within : m.token.0 ≤ top
-  pub kind : m.kind ≡ (f m.token.0).kind
-  pub handle : m.handle ≡ (f m.token.0).handle
+  pub told : told_in m ≡ told_in (f m.token.0)
 
 -- It has each message of the table, and none of a token that wasn't given.
 pub record IsRegister (f : Register) (top : ℕ) (t : SessionTable) : Type 0 where
@@ -90,7 +93,7 @@ listed_next : (f g : Register) (top above : ℕ) → top ≤ above → ((n : ℕ
 listed_next f g top above rises same m is =
     let old = same m.token.0 is.within in
     let low = is.within in
-    record { within = omega arith; kind = is.kind ∙ sym (ap (λ (x : Message). x.kind) old); handle = is.handle ∙ sym (ap (λ (x : Message). x.handle) old) }
+    record { within = omega arith; told = is.told ∙ sym (ap told_in old) }
 
 set_else : (f : Register) (n place : ℕ) (m : Message) → (n ≡ place → ⊥) → set_at place m f n ≡ f n
 set_else f n place m apart = rw (ne_eqb n place apart) refl
@@ -123,7 +126,7 @@ module _ (s : Superblock) (st : State) (f : Register) (is : IsRegister f st.ledg
     same_more n old = set_else f n m.token.0 m (λ same. omega arith)
 
     listed_more : IsListed more after.ledger.top m
-    listed_more = record { within = within; kind = ap (λ (x : Message). x.kind) (sym (set_here f m.token.0 m)); handle = ap (λ (x : Message). x.handle) (sym (set_here f m.token.0 m)) }
+    listed_more = record { within = within; told = ap told_in (sym (set_here f m.token.0 m)) }
 
     grows : Each (IsListed more after.ledger.top) after.sessions → NextOf after
     grows each = record {
@@ -149,7 +152,7 @@ module _ (s : Superblock) (st : State) (f : Register) (is : IsRegister f st.ledg
 
   -- a message of a session's own is so
   own_listed : (top : ℕ) (t : Token) (body : List ℕ) → t.0 ≤ top → f t.0 ≡ unknown → IsListed f top (user_message t body)
-  own_listed top t body within none = record { within = within; kind = ap (λ (x : Message). x.kind) (sym none); handle = ap (λ (x : Message). x.handle) (sym none) }
+  own_listed top t body within none = record { within = within; told = ap told_in (sym none) }
 
   makes : (x : Sid) (c : DmCall) → Makes (IsListed f (dm_state_where None s st x c).ledger.top) st c
   makes x (call.CreateUserEvent body) = own_listed (st.ledger.top + 1) _ body (omega arith) (is.fresh (st.ledger.top + 1) (omega arith))
@@ -191,24 +194,42 @@ seen_next s st f is who what answer ordered given =
 
 -- ---- events and files of tokens
 
+-- what tells of the event
+abbrev pub telling : Event → Message
+telling e = record { kind = e.kind; token = no_token; handle = Some e.handle; offset = e.offset; length = e.length; body = [] }
+
 -- the event is that of the token's message
 pub record IsEventOf (d : Daemon) (f : Register) (top : ℕ) (e : Event) : Type 0 where
   pub within : e.token.0 ≤ top
-  pub handle : (f e.token.0).handle ≡ Some e.handle
-  pub kind : (f e.token.0).kind ≡ e.kind
+  pub told : told_in (f e.token.0) ≡ telling e
   pub own : takes (kinds_of d) e.kind ≡ true
+
+-- the same of a message alone
+pub told_handle : (m : Message) (e : Event) → told_in m ≡ telling e → m.handle ≡ Some e.handle
+told_handle m e is = ap (λ (x : Message). x.handle) is
+
+pub told_kind : (m : Message) (e : Event) → told_in m ≡ telling e → m.kind ≡ e.kind
+told_kind m e is = ap (λ (x : Message). x.kind) is
+
+told_event_on : (m : Message) (e : Event) → told_in m ≡ telling e → m.token ≡ e.token → event_on m e.handle ≡ e
+told_event_on m e is same = λ i. record { token = same i; kind = (is i).kind; handle = e.handle; offset = (is i).offset; length = (is i).length }
 
 -- that message told recall of the file
 pub record IsFileOf (f : Register) (top : ℕ) (t : Token) (k : FileKey) : Type 0 where
   pub within : t.0 ≤ top
   pub tells : TellsOn k (f t.0)
 
+-- of recall it told the file
+pub file_told : (f : Register) (top : ℕ) (e : Event) (h : Handle) → IsEventOf Recall f top e → e.handle ≡ h → TellsOn h.key (f e.token.0)
+file_told f top e h own same =
+    record { told = e.handle; handle = told_handle (f e.token.0) e own.told; file = ap (λ (y : Handle). y.key) same; own = ap (takes (kinds_of Recall)) (told_kind (f e.token.0) e own.told) ∙ own.own }
+
 module _ (f g : Register) (top above : ℕ) (rises : top ≤ above) (same : (n : ℕ) → n ≤ top → g n ≡ f n) where
   pub event_next : (d : Daemon) (e : Event) → IsEventOf d f top e → IsEventOf d g above e
   event_next d e is =
       let old = same e.token.0 is.within in
       let low = is.within in
-      record { within = omega arith; handle = ap (λ (x : Message). x.handle) old ∙ is.handle; kind = ap (λ (x : Message). x.kind) old ∙ is.kind; own = is.own }
+      record { within = omega arith; told = ap told_in old ∙ is.told; own = is.own }
 
   pub file_next : (t : Token) (k : FileKey) → IsFileOf f top t k → IsFileOf g above t k
   file_next t k is = let low = is.within in record { within = omega arith; tells = subst (TellsOn k) (sym (same t.0 is.within)) is.tells }
@@ -218,7 +239,7 @@ module _ (d : Daemon) (f : Register) (top : ℕ) where
   IsKeptOf k = IsEventOf d f top k.event
 
   told_event : (m : Message) (h : Handle) → IsListed f top m → takes (kinds_of d) m.kind ≡ true → m.handle ≡ Some h → IsEventOf d f top (event_on m h)
-  told_event m h is own has = record { within = is.within; handle = sym is.handle ∙ has; kind = sym is.kind; own = own }
+  told_event m h is own has = record { within = is.within; told = sym is.told ∙ ap (λ (o : Option Handle). record (told_in m) { handle = o }) has; own = own }
 
   pub tells_only : (t : SessionTable) (x : Sid) (c : DmCall) (a : DmReply) → Each (IsListed f top) t → HandsOut t x c a → TellsOnly (IsEventOf d f top) d c a
   tells_only t x c a each hands = tells_each (IsEventOf d f top) d (IsListed f top) told_event t x c a each hands
@@ -245,7 +266,7 @@ module _ (limits : Numbers) (st : State) (done : List Mark) (f : Register) (is :
       let own : IsEventOf Recall f st.ledger.top asked.0 = All-contains (IsKeptOf Recall f st.ledger.top) k.recall.seat.kept (record { event = asked.0; marked = asked.1.0 }) follows.recall asked.1.1 in
       subst (λ (u : Token). IsFileOf f st.ledger.top u h.key) asked.2 (record {
         within = own.within;
-        tells = record { told = asked.0.handle; handle = own.handle; file = ap (λ (y : Handle). y.key) asked.3; own = ap (takes (kinds_of Recall)) own.kind ∙ own.own };
+        tells = file_told f st.ledger.top asked.0 h own asked.3;
       })
 
   granted_last : (m : Mark) → IsServedBy m.by k m → (sid : Sid) (t : Token) (h : Handle) → m ≡ made Recall sid (call.RequestRight t h Excl) reply.Done → IsFileOf f st.ledger.top t h.key
@@ -256,10 +277,6 @@ module _ (limits : Numbers) (st : State) (done : List Mark) (f : Register) (is :
     | inl last ↦ subst (IsFileOf f st.ledger.top t) given.file (granted_last m served given.sid t given.handle (sym last.1))
     | inr own ↦ follows.granted t key (record { before = given.before; sid = given.sid; handle = given.handle; rest = own.0; parted = own.2; file = given.file })
   ]
-
-  others_entry : (by : Option Daemon) → with_entry limits by None k ≡ k
-  others_entry None = refl
-  others_entry (Some d) = refl
 
   step : (by : Option Daemon) (who : Actor) (what : Action) (answer : Answer) → HandsBy st who what answer → IsServedBy by k (record { entry = entry_of who what answer; by = by })
       → Follows f st.ledger.top (done ++ (record { entry = entry_of who what answer; by = by }) ∷ []) (with_entry limits by (exchange_by who what answer) k)
@@ -318,16 +335,16 @@ module _ (st : State) (f : Register) (is : IsRegister f st.ledger.top st.session
   event_tells d e m own there same =
       let listed = present_listed m there in
       let one : f m.token.0 ≡ f e.token.0 = ap (λ (u : Token). f u.0) same in
-      let kind : m.kind ≡ e.kind = listed.kind ∙ (ap (λ (x : Message). x.kind) one ∙ own.kind) in
-      record { handle = listed.handle ∙ (ap (λ (x : Message). x.handle) one ∙ own.handle); kind = kind; own = ap (takes (kinds_of d)) kind ∙ own.own }
+      let told : told_in m ≡ telling e = listed.told ∙ (ap told_in one ∙ own.told) in
+      record { handle = told_handle m e told; event = told_event_on m e told same; own = ap (takes (kinds_of d)) (told_kind m e told) ∙ own.own }
 
   pub file_tells : (u : Token) (k : FileKey) (m : Message) → IsFileOf f st.ledger.top u k → IsPresent st.sessions m → m.token ≡ u → TellsOn k m
   file_tells u k m given there same =
       let listed = present_listed m there in
       let own = given.tells in
       let one : f m.token.0 ≡ f u.0 = ap (λ (v : Token). f v.0) same in
-      let kind : m.kind ≡ (f u.0).kind = listed.kind ∙ ap (λ (x : Message). x.kind) one in
-      record { told = own.told; handle = listed.handle ∙ (ap (λ (x : Message). x.handle) one ∙ own.handle); file = own.file; own = ap (takes (kinds_of Recall)) kind ∙ own.own }
+      let told : told_in m ≡ told_in (f u.0) = listed.told ∙ ap told_in one in
+      record { told = own.told; handle = ap (λ (x : Message). x.handle) told ∙ own.handle; file = own.file; own = ap (λ (x : Message). takes (kinds_of Recall) x.kind) told ∙ own.own }
 
 module _ (limits : Numbers) (marks : List Mark) (st : State) (r : Registered st marks (shown limits nothing_shown marks)) where
   kept_tells : (d : Daemon) (k : Kept) (m : Message) → Contains (seat_of d (shown limits nothing_shown marks)).kept k → IsPresent st.sessions m → m.token ≡ k.event.token → Tells d k.event m

@@ -153,7 +153,7 @@ module _ (s : Superblock) (st : State) (c : ℕ) (a : Access) (waits : st.ledger
   abbrev resume_reply : Option Access → Reply
   resume_reply found = reply_where s st (flags_now st c Resume) (objection_in s st c Resume) (resumed found)
 
-  is_blocked : reply_to s st c Resume ≡ Blocked t → conflict a.key (need_of a.call) no_token st.rights ≡ Some t
+  pub is_blocked : reply_to s st c Resume ≡ Blocked t → conflict a.key (need_of a.call) no_token st.rights ≡ Some t
   is_blocked is = goes_blocked s st (flags_now st c Resume) (objection_in s st c Resume) a a.token a.answer t (subst (λ (found : Option Access). resume_reply found ≡ Blocked t) waits is)
 
   is_still : reply_to s st c Resume ≡ Still t → (a.token ≡ Some t) × (a.answer ≡ None)
@@ -248,7 +248,7 @@ module _ (s : Superblock) (st : State) (sid : Sid) where
       past_dead false is = absurd cc
 
   -- no message waits for the session
-  told_again : IsAnswer s st (Session sid) (Dm (GetEvents 0 buffer_bytes)) (Told (Refused Again)) → queue_of sid st.sessions ≡ []
+  pub told_again : IsAnswer s st (Session sid) (Dm (GetEvents 0 buffer_bytes)) (Told (Refused Again)) → queue_of sid st.sessions ≡ []
   told_again (inl is) = absurd (let wrong : Told (Refused Again) ≡ fault_of (Dm (GetEvents 0 buffer_bytes)) = is.1 in cc)
   told_again (inr is) =
       let own : Told (Refused Again) ≡ Told (dm_reply_to s st sid (GetEvents 0 buffer_bytes)) = is.1 in

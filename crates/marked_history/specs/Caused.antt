@@ -18,14 +18,10 @@ use Rattle.plain_model.specs.declared.entries.Actor.TheVariants.{Caller, Session
 use Rattle.plain_model.specs.declared.entries.Answer.TheVariants.{Call as Replied, Dm as Told}
 use Rattle.plain_model.specs.declared.entries.Entry.{Entry}
 use Rattle.plain_model.specs.Ledger.{Access}
-use Rattle.plain_model.specs.State.{Held, State, just_opened}
+use Rattle.plain_model.specs.State.{State}
 use Rattle.plain_model.specs.Exact.{state_by}
-use Rattle.plain_model.specs.Laws.{IsRunSeen}
-use Rattle.hsm_policy.specs.Settings.{Numbers}
 use Rattle.hsm_core.specs.Answers.{entry_of}
-use Rattle.hsm_core.specs.Packed.{ArePacked}
-use Rattle.marked_history.specs.Marks.{Mark, entries_of}
-use Rattle.marked_history.specs.Served.{IsOf, Served}
+use Rattle.marked_history.specs.Served.{IsOf}
 
 -- ---- accesses that were parked
 
@@ -63,9 +59,3 @@ pub record IsCausedBy (s : Superblock) (st : State) (es : List Entry) (sid : Sid
 -- by the entries before it, each response with a fault of a medium that was done
 abbrev pub Caused : Superblock → State → List Entry → Type 0
 Caused s st es = (before : List Entry) (sid : Sid) (t : Token) (fault : Fault) (rest : List Entry) → es ≡ before ++ entry_of (Session sid) (Dm (Respond t (Media fault))) (Told Done) ∷ rest → IsCausedBy s st before sid t fault
-
--- ---- the law
-
--- of each run that is served, with all its buffers packed
-abbrev pub ServedIsCaused : Numbers → Superblock → ℕ → Held → List Mark → List Entry → Type 0
-ServedIsCaused limits s base h marks es = entries_of marks ≡ es → Served limits marks → IsRunSeen ⊥ s base h es → ArePacked s (just_opened base h) es → Caused s (just_opened base h) es

@@ -9,4 +9,3 @@ pub mod Freeing
 pub mod Waiting
 pub mod Lives
 pub mod Settling
-pub mod Coming

@@ -1,8 +1,9 @@
 -- What the settles of a script have come to, over the marked history of its lines.
-use Rattle.std.specs.Prelude.{◌≡◌, ◌≢◌, ◌⊎◌, ℕ, List, [], ◌∷◌, ◌++◌, true, false, Some, IfSome, Contains}
+use Rattle.std.specs.Prelude.{◌≡◌, ◌≢◌, ◌⊎◌, ℕ, List, [], ◌∷◌, ◌++◌, true, false, None, Some, IfSome, Contains}
 use Rattle.std.specs.List.{AllByRecursion}
+use Rattle.hsm_types.specs.Callers.{IsCallerNumber}
 use Rattle.hsm_types.specs.Limits.{buffer_bytes}
-use Rattle.hsm_types.specs.Sessions.{lives}
+use Rattle.hsm_types.specs.Sessions.{lives, queue_of}
 use Rattle.hsm_types.specs.declared.daemons.Daemon.{Daemon}
 use Rattle.hsm_types.specs.declared.daemons.Daemon.TheVariants.{Recall, Migrate}
 use Rattle.hsm_types.specs.declared.dm.DmCall.TheVariants.{CreateSession, GetEvents, GetTable}
@@ -11,8 +12,11 @@ use Rattle.hsm_types.specs.declared.dm.DmReply.TheVariants.{Refused, Table as Th
 use Rattle.hsm_types.specs.declared.keys.Sid.{Sid}
 use Rattle.hsm_types.specs.declared.stores.Superblock.{Superblock}
 use Rattle.hsm_types.specs.declared.tables.Table.{Table}
+use Rattle.plain_model.specs.declared.entries.Actor.TheVariants.{Session}
 use Rattle.plain_model.specs.Exact.{state_by}
-use Rattle.plain_model.specs.State.{State, used}
+use Rattle.plain_model.specs.Laws.{IsRunSeen}
+use Rattle.plain_model.specs.State.{Held, State, just_opened, used}
+use Rattle.hsm_core.specs.Packed.{ArePacked}
 use Rattle.hsm_policy.specs.Settings.{Numbers}
 use Rattle.daemon_session.specs.Seats.{first_id, IsSeated}
 use Rattle.migrate_daemon.specs.Shares.{is_above}
@@ -21,7 +25,7 @@ use Rattle.script_text.specs.declared.lines.Line.TheVariants.{Start, Kill, Settl
 use Rattle.marked_history.specs.Follows.{IsPartOf}
 use Rattle.marked_history.specs.Lives.{called_in, called_by, BeginsRight}
 use Rattle.marked_history.specs.Marks.{Mark, entries_of, made}
-use Rattle.marked_history.specs.Served.{Shown, nothing_shown, shown}
+use Rattle.marked_history.specs.Served.{Shown, nothing_shown, shown, Served}
 use Rattle.marked_history.specs.Tokens.{seat_of}
 use Rattle.marked_history.specs.Waiting.{Running, runs, AllMayWait}
 
@@ -60,11 +64,13 @@ pub record IsToldNoMore (daemon : Daemon) (sid : Sid) (part : List Mark) : Type 
   pub parted : part ≡ first ++ made daemon sid (GetEvents 0 buffer_bytes) (Refused Again) ∷ since
   pub last : AllByRecursion (λ (m : Mark). m.by ≢ Some daemon) since
 
--- The daemon has a session in which it set its kinds. The session lives, and was told at last that there are no more events.
+-- The daemon has a session in which it set its kinds. The session lives, no message is left in its queue, and it was told at last that there are no more
+-- events.
 pub record IsAtWork (daemon : Daemon) (k : Shown) (st : State) (part : List Mark) : Type 0 where
   pub sid : Sid
   pub seated : IsSeated (seat_of daemon k) sid
   pub live : lives sid st.sessions ≡ true
+  pub empty : queue_of sid st.sessions ≡ []
   pub told : IsToldNoMore daemon sid part
 
 -- Its last call was refused, as too many sessions live.
@@ -108,3 +114,21 @@ module _ (limits : Numbers) (s : Superblock) (first : State) where
   EachSettles r called before [] marks = marks ≡ []
   EachSettles r called before (line ∷ lines) marks = (part : List Mark) × ((rest : List Mark) × ((marks ≡ part ++ rest) × IsPartOf line part × AreByRunning (running_by line r) part × LeavesSettled line (running_by line r) before part
       × BeginsRight limits called before part × EachSettles (running_by line r) (called_by line (called_in part called)) (before ++ part) lines rest))
+
+-- ---- where no line has a session
+
+abbrev pub both_run : Running
+both_run = record { recall = true; migrate = true }
+
+-- an entry of a session is a call that a daemon made
+abbrev pub IsCalledByDaemon : Mark → Type 0
+IsCalledByDaemon m = (sid : Sid) → m.entry.actor ≡ Session sid → (daemon : Daemon) × (m.by ≡ Some daemon)
+
+abbrev pub NoneWaits : State → Type 0
+NoneWaits st = (c : ℕ) → IsCallerNumber c → st.ledger.pending c ≡ None
+
+-- Where each call is a daemon's own, both daemons run, and the store has settled, no access waits.
+abbrev pub SettledNoneWaits : Numbers → Superblock → ℕ → Held → (before part : List Mark) → Type 0
+SettledNoneWaits limits s base h before part =
+    Served limits (before ++ part) → IsRunSeen ⊥ s base h (entries_of (before ++ part)) → ArePacked s (just_opened base h) (entries_of (before ++ part)) → AllByRecursion IsCalledByDaemon (before ++ part)
+    → HasSettled limits s (just_opened base h) both_run before part → NoneWaits (state_by s (just_opened base h) (entries_of (before ++ part)))

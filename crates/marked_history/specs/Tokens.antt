@@ -31,6 +31,7 @@ use Rattle.hsm_policy.specs.Settings.{Numbers}
 use Rattle.daemon_session.specs.declared.events.Event.{Event}
 use Rattle.daemon_session.specs.declared.events.Kept.{Kept}
 use Rattle.daemon_session.specs.Seats.{Seat, IsSeated}
+use Rattle.daemon_session.specs.Tellings.{event_on}
 use Rattle.hsm_core.specs.Answers.{entry_of}
 use Rattle.hsm_core.specs.Packed.{ArePacked}
 use Rattle.marked_history.specs.Marks.{Mark, entries_of, no_daemons, made}
@@ -127,10 +128,10 @@ RequestIsGranted s base h es = IsRunSeen ⊥ s base h es
 abbrev pub IsPresent : SessionTable → Message → Type 0
 IsPresent t m = Contains t.unrouted m ⊎ ((sid : Sid) × (Contains (queue_of sid t) m ⊎ Contains (outstanding_of sid t) m))
 
--- it is the one that told the daemon of the event
+-- it is the one that told the daemon of the event, as the daemon keeps it
 pub record Tells (daemon : Daemon) (e : Event) (m : Message) : Type 0 where
   pub handle : m.handle ≡ Some e.handle
-  pub kind : m.kind ≡ e.kind
+  pub event : event_on m e.handle ≡ e
   pub own : takes (kinds_of daemon) m.kind ≡ true
 
 -- it told recall of an access to the file

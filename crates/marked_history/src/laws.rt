@@ -7,16 +7,10 @@ ghost use Rattle.plain_model.specs.declared.entries.Entry.{Entry};
 ghost use Rattle.plain_model.specs.State.{Held};
 ghost use Rattle.hsm_policy.specs.Settings.{Numbers};
 ghost use Rattle.marked_history.specs.Marks.{Mark};
-ghost use Rattle.marked_history.specs.Caused.{ServedIsCaused};
-ghost use Rattle.marked_history.specs.Coming.{ServedMakesAnew, ServedTakesOver};
 ghost use Rattle.marked_history.specs.Freeing.{PunchFrees};
-ghost use Rattle.marked_history.specs.Tokens.{RequestIsGranted, ServedHoldsGranted, ServedKeepsAll, ServedTellsOne};
+ghost use Rattle.marked_history.specs.Tokens.{RequestIsGranted, ServedHoldsGranted, ServedKeepsAll};
+ghost use Rattle.marked_history.specs.Settling.{SettledNoneWaits};
 ghost use Rattle.marked_history.specs.Waiting.{Running, SettledWaits};
-
-/// In each served run an answer names a fault of a medium only where its session was told that bytes of the parked file are away in that object.
-pub fn served_is_caused()
-    ensures { (limits : Numbers) (s : Superblock) (base : ℕ) (opening : Held) (marks : List Mark) (history : List Entry) → ServedIsCaused limits s base opening marks history }
-{}
 
 /// In each served run a daemon with a session keeps each event of its kinds that is outstanding to that session, but for those that lines of the script took.
 pub fn served_keeps_all()
@@ -39,23 +33,12 @@ pub fn punch_frees()
     ensures { (s : Superblock) (base : ℕ) (opening : Held) (history : List Entry) → PunchFrees s base opening history }
 {}
 
-/// In each served run the message of a token is the one that told of the event that a daemon keeps, and of the file that recall was given for it.
-pub fn served_tells_one()
-    ensures { (limits : Numbers) (s : Superblock) (base : ℕ) (opening : Held) (marks : List Mark) (history : List Entry) → ServedTellsOne limits s base opening marks history }
-{}
-
 /// In a served run at rest an access waits only where a foreign token's right blocks it or holds up its event, or where no running daemon may serve the event.
 pub fn settled_waits()
     ensures { (running : Running) (limits : Numbers) (s : Superblock) (base : ℕ) (opening : Held) (marks : List Mark) (history : List Entry) → SettledWaits running limits s base opening marks history }
 {}
 
-/// In each served run a daemon makes a session beside the others only where it was told all sessions since its last call for one, and none of them had its
-/// information then.
-pub fn served_makes_anew()
-    ensures { (limits : Numbers) (s : Superblock) (base : ℕ) (opening : Held) (marks : List Mark) (history : List Entry) → ServedMakesAnew limits s base opening marks history }
-{}
-
-/// In each served history a daemon takes the place of a session only where it was told, since it last asked for all of them, that this one has its information.
-pub fn served_takes_over()
-    ensures { (limits : Numbers) (marks : List Mark) → ServedTakesOver limits marks }
+/// In a served run that has settled, in which each call of a session is a daemon's own and both daemons run, no access waits.
+pub fn settled_none_waits()
+    ensures { (limits : Numbers) (s : Superblock) (base : ℕ) (opening : Held) (before part : List Mark) → SettledNoneWaits limits s base opening before part }
 {}

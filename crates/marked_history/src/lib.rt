@@ -5,6 +5,6 @@
 mod laws;
 
 pub use laws::{
-    punch_frees, request_is_granted, served_holds_granted, served_is_caused, served_keeps_all,
-    served_makes_anew, served_takes_over, served_tells_one, settled_waits,
+    punch_frees, request_is_granted, served_holds_granted, served_keeps_all, settled_none_waits,
+    settled_waits,
 };

@@ -1,6 +1,5 @@
 use Rattle.std.proofs.Common.{◌∙◌, refl}
-use Rattle.hsm_cli.specs.Follows.{FollowsFirst, SettlesSince}
-use Rattle.hsm_cli.proofs.Scripted.{lines_run_all, lines_run_first, is_served}
+use Rattle.hsm_cli.proofs.Scripted.{lines_run_all, lines_run_first}
 use Rattle.hsm_cli.specs.Deeds.{AreThese}
 use Rattle.hsm_cli.proofs.Doing.{all_done, broken_done, wanting_done}
 use Rattle.hsm_cli.proofs.drilling.run_all.Goals as goal
@@ -16,15 +15,6 @@ returns-in-Err-Memory-clause-first g c = lines_run_first g.M.Drive c.args.replay
 
 pub returns-in-Err-Disk-clause-first : goal.returns-in-Err-Disk-clause-first
 returns-in-Err-Disk-clause-first g c = lines_run_first g.M.Drive c.args.replay.now c.run.new.replay c.requires.limits (c.run.ensures.limits ∙ c.requires.limits) c.args.script c.run.ensures.first
-
-pub returns-in-Ok-clause-served : goal.returns-in-Ok-clause-served
-returns-in-Ok-clause-served g c = is_served g.M.Drive c.run.new.replay (c.run.ensures.limits ∙ c.requires.limits) (FollowsFirst (SettlesSince c.args.replay.now) c.args.script) c.run.ensures.first
-
-pub returns-in-Err-Memory-clause-served : goal.returns-in-Err-Memory-clause-served
-returns-in-Err-Memory-clause-served g c = is_served g.M.Drive c.run.new.replay (c.run.ensures.limits ∙ c.requires.limits) (FollowsFirst (SettlesSince c.args.replay.now) c.args.script) c.run.ensures.first
-
-pub returns-in-Err-Disk-clause-served : goal.returns-in-Err-Disk-clause-served
-returns-in-Err-Disk-clause-served g c = is_served g.M.Drive c.run.new.replay (c.run.ensures.limits ∙ c.requires.limits) (FollowsFirst (SettlesSince c.args.replay.now) c.args.script) c.run.ensures.first
 
 pub returns-in-Ok-clause-media : goal.returns-in-Ok-clause-media
 returns-in-Ok-clause-media g c = c.run.ensures.first.marked.faults

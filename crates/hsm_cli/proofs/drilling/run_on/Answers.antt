@@ -1,9 +1,8 @@
 use Rattle.std.proofs.Common.{◌≡◌, false}
 use Rattle.hsm_system.specs.Events.{GoesOn}
-use Rattle.hsm_cli.specs.Follows.{IsServed}
-use Rattle.hsm_cli.proofs.Daemons.{run_is_well}
+use Rattle.hsm_cli.proofs.Daemons.{run_is_well, run_keeps}
 use Rattle.hsm_cli.proofs.Drills.{has_left}
-use Rattle.hsm_cli.proofs.Faults.{caused_served}
+use Rattle.hsm_cli.proofs.Faults.{IsMade, caused_served, made}
 use Rattle.hsm_cli.proofs.Telling.{not_failed}
 use Rattle.hsm_cli.proofs.drilling.run_on.Given.{Over}
 use Rattle.hsm_cli.proofs.drilling.run_on.Goals.{After-close-disk}
@@ -13,8 +12,8 @@ module _ (g : Over) (c : After-close-disk g) where
   goes_on : GoesOn g.D.Disk c.args.hsm c.close-hsm.result.0
   goes_on = rw c.close-hsm.ensures.store (rw c.new-replay.ensures at c.run_all-ended.ensures.goes_on)
 
-  served : IsServed c.close-hsm.result.0.history
-  served = rw c.close-hsm.ensures.store c.run_all-ended.ensures.served
+  served : IsMade c.close-hsm.result.0.history
+  served = rw c.close-hsm.ensures.store (made c.run_all-ended.ensures.deeds)
 
 pub returns-clause-all : goal.returns-clause-all
 returns-clause-all g c = rw (c.close-disk.ensures.entries, c.close-hsm.ensures.store, c.close-hsm.ensures.drives) (rw c.new-replay.ensures at c.run_all-ended.ensures.all)
@@ -23,15 +22,21 @@ pub returns-clause-first : goal.returns-clause-first
 returns-clause-first g c = rw (c.close-disk.ensures.entries, c.close-hsm.ensures.store, c.close-hsm.ensures.drives) (rw c.new-replay.ensures at c.run_all-ended.ensures.first)
 
 pub returns-clause-well : goal.returns-clause-well
-returns-clause-well g c = rw c.close-disk.ensures.entries (run_is_well (record { anew = c.served_makes_anew.ensures; over = c.served_takes_over.ensures; keeps = c.served_keeps_all.ensures; frees = c.punch_frees.ensures }) g.D.Disk c.args.hsm c.close-hsm.result.0 (goes_on g (goal.at.returns-clause-well g c).After-close-disk) c.close-disk.ensures.kept)
+returns-clause-well g c = rw c.close-disk.ensures.entries (run_is_well (record { anew = c.makes_anew.ensures; over = c.takes_over.ensures; frees = c.punch_frees.ensures }) g.D.Disk c.args.hsm c.close-hsm.result.0 (goes_on g (goal.at.returns-clause-well g c).After-close-disk) c.close-disk.ensures.kept)
+
+pub returns-clause-keeps : goal.returns-clause-keeps
+returns-clause-keeps g c = rw c.close-disk.ensures.entries (run_keeps c.served_keeps_all.ensures g.D.Disk c.args.hsm c.close-hsm.result.0 (goes_on g (goal.at.returns-clause-keeps g c).After-close-disk) c.close-disk.ensures.kept)
 
 pub returns-clause-good : goal.returns-clause-good
 returns-clause-good g c = rw (c.close-disk.ensures.disk, c.close-disk.ensures.entries, ← (goes_on g (goal.at.returns-clause-good g c).After-close-disk).opened) c.close-disk.ensures.kept.good
 
+pub returns-clause-packed : goal.returns-clause-packed
+returns-clause-packed g c = rw (c.close-disk.ensures.entries, ← (goes_on g (goal.at.returns-clause-packed g c).After-close-disk).opened) c.close-disk.ensures.kept.packed
+
 pub returns-clause-caused_by : goal.returns-clause-caused_by
 returns-clause-caused_by g c =
     let after = (goal.at.returns-clause-caused_by g c).After-close-disk in
-    rw c.close-disk.ensures.entries (caused_served g.D.Disk c.served_is_caused.ensures c.args.hsm c.close-hsm.result.0 (goes_on g after) (served g after) c.close-disk.ensures.kept)
+    rw c.close-disk.ensures.entries (caused_served g.D.Disk c.is_caused.ensures c.args.hsm c.close-hsm.result.0 (goes_on g after) (served g after) c.close-disk.ensures.kept)
 
 pub returns-clause-media : goal.returns-clause-media
 returns-clause-media g c = rw (c.close-disk.ensures.entries, c.close-hsm.ensures.store, c.close-hsm.ensures.drives) c.run_all-ended.ensures.media

@@ -5,8 +5,8 @@ use Rattle.deeds.specs.Deeds.{Deed}
 use Rattle.file_store.specs.Stores.{Store as FileStore}
 use Rattle.hsm_cli.specs.Clauses.{HasRead, IsWhole}
 use Rattle.hsm_cli.proofs.Committing.{ran_well, on_none, whole}
-use Rattle.hsm_cli.proofs.Daemons.{run_is_well}
-use Rattle.hsm_cli.proofs.Faults.{caused_served}
+use Rattle.hsm_cli.proofs.Daemons.{run_is_well, run_keeps}
+use Rattle.hsm_cli.proofs.Faults.{caused_served, made}
 use Rattle.hsm_cli.proofs.Legality.{orderly, plain_over}
 use Rattle.hsm_cli.proofs.Quiet.{works_still, reads_quietly, writes_quietly, lent_first}
 use Rattle.hsm_cli.proofs.Scripted.{idle_none}
@@ -25,7 +25,10 @@ returns-clause-script g c =
     (has_run _ _ c.args.commits (source_told g.I.Source.left g.I.Source.fault_count c.args.source.now c.run_with-ended.new.source) _ (sink_told g.O.Sink.taken g.O.Sink.fault_count c.args.sink.now c.write_transcript-written.new.sink) c.run_with-ended.result.ended c.write_transcript-written.result c.write_transcript-written.ensures.refused c.run_with-ended.ensures.ran)
 
 pub returns-clause-well : goal.returns-clause-well
-returns-clause-well g c = rw c.close-disk.ensures.entries (run_is_well (record { anew = c.served_makes_anew.ensures; over = c.served_takes_over.ensures; keeps = c.served_keeps_all.ensures; frees = c.punch_frees.ensures }) g.D.Disk c.args.hsm c.run_with-ended.result.hsm c.run_with-ended.ensures.goes_on c.close-disk.ensures.kept)
+returns-clause-well g c = rw c.close-disk.ensures.entries (run_is_well (record { anew = c.makes_anew.ensures; over = c.takes_over.ensures; frees = c.punch_frees.ensures }) g.D.Disk c.args.hsm c.run_with-ended.result.hsm c.run_with-ended.ensures.goes_on c.close-disk.ensures.kept)
+
+pub returns-clause-keeps : goal.returns-clause-keeps
+returns-clause-keeps g c = rw c.close-disk.ensures.entries (run_keeps c.served_keeps_all.ensures g.D.Disk c.args.hsm c.run_with-ended.result.hsm c.run_with-ended.ensures.goes_on c.close-disk.ensures.kept)
 
 pub returns-clause-now : goal.returns-clause-now
 returns-clause-now g c = rw (c.close-disk.ensures.disk, c.close-disk.ensures.entries, ← c.run_with-ended.ensures.goes_on.opened) c.close-disk.ensures.now
@@ -48,7 +51,7 @@ returns-clause-untouched g c =
 pub returns-clause-caused_by : goal.returns-clause-caused_by
 returns-clause-caused_by g c =
     rw c.close-disk.ensures.entries
-    (caused_served g.D.Disk c.served_is_caused.ensures c.args.hsm c.run_with-ended.result.hsm c.run_with-ended.ensures.goes_on c.run_with-ended.ensures.served c.close-disk.ensures.kept)
+    (caused_served g.D.Disk c.is_caused.ensures c.args.hsm c.run_with-ended.result.hsm c.run_with-ended.ensures.goes_on (made c.run_with-ended.ensures.deeds) c.close-disk.ensures.kept)
 
 pub returns-clause-media : goal.returns-clause-media
 returns-clause-media g c = rw c.close-disk.ensures.entries c.run_with-ended.ensures.media
@@ -70,6 +73,9 @@ returns-clause-faultless g c = rw (c.close-disk.ensures.entries, c.first_cause.e
 
 pub returns-clause-legality : goal.returns-clause-legality
 returns-clause-legality g c = rw (c.close-disk.ensures.disk, c.close-disk.ensures.entries, ← c.run_with-ended.ensures.goes_on.opened) c.close-disk.ensures.kept.run
+
+pub returns-clause-packed : goal.returns-clause-packed
+returns-clause-packed g c = rw (c.close-disk.ensures.entries, ← c.run_with-ended.ensures.goes_on.opened) c.close-disk.ensures.kept.packed
 
 pub returns-clause-orderly : goal.returns-clause-orderly
 returns-clause-orderly g c = rw (c.close-disk.ensures.entries, ← c.run_with-ended.ensures.goes_on.opened) (orderly _ _ _ _ _ c.close-disk.ensures.kept.run)

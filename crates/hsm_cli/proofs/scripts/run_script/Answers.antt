@@ -1,10 +1,10 @@
 use Rattle.std.proofs.Common.{◌∙◌, Some, inr, refl}
 use Rattle.std.proofs.lemmas.Result.{err_from_is_err_and}
 use Rattle.hsm_replay.proofs.Growing.{have_grown_itself}
-use Rattle.hsm_cli.specs.Follows.{FollowsFirst, SettlesOn, SettlesSince, lines_run}
+use Rattle.hsm_cli.specs.Follows.{SettlesOn, lines_run}
 use Rattle.hsm_cli.specs.Sealing.{TellsOf}
 use Rattle.hsm_cli.specs.Told.{source_told}
-use Rattle.hsm_cli.proofs.Scripted.{none_served, none_true, none_run, all_run, first_run, is_served}
+use Rattle.hsm_cli.proofs.Scripted.{none_true, none_run, all_run, first_run}
 use Rattle.hsm_cli.specs.Deeds.{AreDone, AreOfScript, HaveGone, MayGoOnOver}
 use Rattle.hsm_cli.proofs.Deeds.{reading_ends}
 use Rattle.hsm_cli.proofs.Doing.{all_done, broken_done, idle_done, none_done, none_gone, wanting_done}
@@ -20,9 +20,6 @@ returns-in_err-script-clause-ran g c =
 pub returns-in_err-script-clause-media : goal.returns-in_err-script-clause-media
 returns-in_err-script-clause-media g c = none_true g.M.Drive _ _ c.requires.ready.store.history
 
-pub returns-in_err-script-clause-served : goal.returns-in_err-script-clause-served
-returns-in_err-script-clause-served g c = none_served _ c.requires.ready.store.history
-
 pub returns-in_err-script-clause-drives : goal.returns-in_err-script-clause-drives
 returns-in_err-script-clause-drives g c = have_grown_itself g.M.Drive _
 
@@ -34,26 +31,17 @@ returns-in-Ok-clause-ran g c = (all_run g.M.Drive c.args.replay.now c.run.new.re
 pub returns-in-Ok-clause-media : goal.returns-in-Ok-clause-media
 returns-in-Ok-clause-media g c = c.run.ensures.first.marked.faults
 
-pub returns-in-Ok-clause-served : goal.returns-in-Ok-clause-served
-returns-in-Ok-clause-served g c = is_served g.M.Drive c.run.new.replay (c.run.ensures.limits ∙ c.requires.limits) (FollowsFirst (SettlesSince c.args.replay.now) (lines_run c.args.commits c.in_ok-script.script)) c.run.ensures.first
-
 pub returns-in-Err-Memory-clause-ran : goal.returns-in-Err-Memory-clause-ran
 returns-in-Err-Memory-clause-ran g c = inr (first_run g.M.Drive c.args.replay.now c.run.new.replay c.requires.limits (c.run.ensures.limits ∙ c.requires.limits) c.args.commits _ c.in_ok-script.script c.in_ok-script.ensures.script c.run.ensures.first)
 
 pub returns-in-Err-Memory-clause-media : goal.returns-in-Err-Memory-clause-media
 returns-in-Err-Memory-clause-media g c = c.run.ensures.first.marked.faults
 
-pub returns-in-Err-Memory-clause-served : goal.returns-in-Err-Memory-clause-served
-returns-in-Err-Memory-clause-served g c = is_served g.M.Drive c.run.new.replay (c.run.ensures.limits ∙ c.requires.limits) (FollowsFirst (SettlesSince c.args.replay.now) (lines_run c.args.commits c.in_ok-script.script)) c.run.ensures.first
-
 pub returns-in-Err-Disk-clause-ran : goal.returns-in-Err-Disk-clause-ran
 returns-in-Err-Disk-clause-ran g c = inr (first_run g.M.Drive c.args.replay.now c.run.new.replay c.requires.limits (c.run.ensures.limits ∙ c.requires.limits) c.args.commits _ c.in_ok-script.script c.in_ok-script.ensures.script c.run.ensures.first)
 
 pub returns-in-Err-Disk-clause-media : goal.returns-in-Err-Disk-clause-media
 returns-in-Err-Disk-clause-media g c = c.run.ensures.first.marked.faults
-
-pub returns-in-Err-Disk-clause-served : goal.returns-in-Err-Disk-clause-served
-returns-in-Err-Disk-clause-served g c = is_served g.M.Drive c.run.new.replay (c.run.ensures.limits ∙ c.requires.limits) (FollowsFirst (SettlesSince c.args.replay.now) (lines_run c.args.commits c.in_ok-script.script)) c.run.ensures.first
 
 pub returns-in_err-script-clause-deeds : goal.returns-in_err-script-clause-deeds
 returns-in_err-script-clause-deeds g c =

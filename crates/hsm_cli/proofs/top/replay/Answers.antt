@@ -1,4 +1,4 @@
-use Rattle.std.proofs.Common.{inl, Some, false, refl, sym, subst, arith}
+use Rattle.std.proofs.Common.{inl, None, Some, false, refl, sym, subst, arith}
 use Rattle.std.proofs.KnownBytes.{Appends-nil}
 use Rattle.disk_model.specs.Calls.{RoseByOne}
 use Rattle.media_model.specs.Memory.{has_gives}
@@ -11,13 +11,15 @@ use Rattle.hsm_cli.specs.Follows.{SettlesOn}
 use Rattle.hsm_cli.specs.Sealing.{IsRightInMemory}
 use Rattle.hsm_cli.specs.Told.{source_told, sink_told}
 use Rattle.hsm_cli.proofs.Faults.{caused_none, caused_new, none_failed}
-use Rattle.hsm_cli.proofs.Legality.{good_new, good_unopened}
+use Rattle.hsm_cli.proofs.Legality.{good_new, good_unopened, packed_new}
 use Rattle.hsm_cli.proofs.Running.{never_rose, no_host, ends_in_memory}
-use Rattle.hsm_cli.proofs.Scripted.{settles_new, also_well}
+use Rattle.hsm_cli.proofs.Scripted.{settles_new, also_keeps}
 use Rattle.hsm_cli.proofs.Sealing.{right_run}
 use Rattle.hsm_cli.proofs.Wanting.{gives_none}
 use Rattle.hsm_cli.proofs.Deeds.{done_new, went_in_memory}
-use Rattle.hsm_cli.proofs.Doing.{done_as, none_done}
+use Rattle.hsm_cli.proofs.Doing.{also_well, done_as, none_done}
+use Rattle.hsm_cli.proofs.Daemons.{none_well}
+use Rattle.hsm_cli.specs.Daemons.{IsWellServedOver}
 use Rattle.hsm_cli.proofs.top.replay.Goals as goal
 
 pub returns-in-Ok-clause-script : goal.returns-in-Ok-clause-script
@@ -27,7 +29,7 @@ returns-in-Ok-clause-script g c =
     let history = c.run_opened-finished.result.history in
     rw c.ended.ensures
     (settles_new g.row.D.Denot c.in-Ok.hsm.opened (λ so well. HasRun so (λ marks. well marks × IsRightInMemory marks) false source cause history) c.in-Ok.ensures.empty.0 c.in-Ok.ensures.empty.1 c.in-Ok.ensures.empty.2
-    (also_well (Some c.in-Ok.hsm.opened) (SettlesOn (Some c.in-Ok.hsm.opened)) IsRightInMemory false source cause history c.run_opened-finished.ensures.well
+    (also_keeps (Some c.in-Ok.hsm.opened) (SettlesOn (Some c.in-Ok.hsm.opened)) IsRightInMemory false source cause history c.run_opened-finished.ensures.keeps
     (right_run (SettlesOn (Some c.in-Ok.hsm.opened)) _ (λ ds. ds.items) c.run_opened-finished.result.drives.items c.new_drives-drives.result false source cause history
     c.seals_are_whole.ensures refl (λ d v there. has_gives d v there) c.new_drives-drives.ensures.why c.run_opened-finished.ensures.unready c.run_opened-finished.ensures.idle c.run_opened-finished.ensures.script)))
 
@@ -36,6 +38,12 @@ returns-in-Ok-clause-legality g c = rw c.ended.ensures (good_new c.in-Ok.hsm.ope
 
 pub returns-in-Err-clause-legality : goal.returns-in-Err-clause-legality
 returns-in-Err-clause-legality g c = rw c.unopened.ensures (good_unopened g.row.D.Denot)
+
+pub returns-in-Ok-clause-packed : goal.returns-in-Ok-clause-packed
+returns-in-Ok-clause-packed g c = rw c.ended.ensures (packed_new c.in-Ok.hsm.opened c.run_opened-finished.result.history c.in-Ok.ensures.empty.0 c.in-Ok.ensures.empty.1 c.in-Ok.ensures.empty.2 c.run_opened-finished.ensures.packed)
+
+pub returns-in-Err-clause-packed : goal.returns-in-Err-clause-packed
+returns-in-Err-clause-packed g c = rw c.unopened.ensures tt
 
 pub returns-in-Ok-clause-media : goal.returns-in-Ok-clause-media
 returns-in-Ok-clause-media g c = rw c.ended.ensures (none_failed _ (λ d. refl) (λ ds. ds.items) c.new_drives-drives.result c.run_opened-finished.result.drives.items c.run_opened-finished.result.history c.new_drives-drives.ensures.count c.run_opened-finished.ensures.drives c.run_opened-finished.ensures.idle c.run_opened-finished.ensures.media)
@@ -88,8 +96,9 @@ returns-in-Ok-clause-deeds g c =
     let lines = AreOfScript false (g.I.Source.left c.args.source.now) in
     rw c.ended.ensures
     (done_new _ g.row.D.Denot opened lines finished.cause (DrivesInMemory standard) finished.history empty.0 empty.1 empty.2
+    (also_well (Some opened) _ (DrivesInMemory standard) finished.history c.run_opened-finished.ensures.well
     (done_as standard (AreDone (MayGoOnOver (Some opened)) lines finished.cause) _ _ (DrivesInMemory standard) finished.history (λ deeds done. done)
-    (λ deeds gone. went_in_memory (λ ds. ds.items) c.new_drives-drives.result finished.drives.items c.new_drives-drives.ensures.handed deeds gone) c.run_opened-finished.ensures.deeds))
+    (λ deeds gone. went_in_memory (λ ds. ds.items) c.new_drives-drives.result finished.drives.items c.new_drives-drives.ensures.handed deeds gone) c.run_opened-finished.ensures.deeds)))
 
 pub returns-in-Err-clause-deeds : goal.returns-in-Err-clause-deeds
-returns-in-Err-clause-deeds g c = rw c.unopened.ensures (none_done _ (DrivesInMemory standard) _ refl (inl refl) (inl refl))
+returns-in-Err-clause-deeds g c = rw c.unopened.ensures (none_done _ (λ deeds. IsWellServedOver {D = g.row.D.Denot} None deeds × DrivesInMemory standard deeds) _ refl (inl refl) (none_well _ _ _, inl refl))

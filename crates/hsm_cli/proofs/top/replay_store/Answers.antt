@@ -14,11 +14,11 @@ use Rattle.hsm_cli.proofs.Running.{failed_since, served_words, served_begun}
 use Rattle.hsm_cli.proofs.Legality.{good_but_bytes, good_unopened, legal_as}
 use Rattle.hsm_cli.proofs.Drives.{rose_once, gives_back, none_at_fault, host_failed, why_served, disk_came, drives_came, tallies_since}
 use Rattle.hsm_cli.proofs.Quiet.{unhanded_quiet, once_since, asked_once}
-use Rattle.hsm_cli.proofs.Scripted.{also_well, ran_with}
+use Rattle.hsm_cli.proofs.Scripted.{also_keeps, ran_with}
 use Rattle.hsm_cli.proofs.Sealing.{right_since}
 use Rattle.hsm_cli.proofs.Showings.{unopened_quiet}
 use Rattle.hsm_cli.proofs.Deeds.{host_other, none_came, open_other, unopened_done, went_since}
-use Rattle.hsm_cli.proofs.Doing.{done_as}
+use Rattle.hsm_cli.proofs.Doing.{also_well, done_as}
 use Rattle.hsm_cli.proofs.top.replay_store.Given.{Over}
 use Rattle.hsm_cli.proofs.top.replay_store.Goals.{After-run_opened-finished}
 use Rattle.hsm_cli.proofs.top.replay_store.Goals as goal
@@ -60,7 +60,7 @@ returns-in-Ok-open-clause-script g c =
     let source = source_told g.I.Source.left g.I.Source.fault_count c.args.source.now c.run_opened-finished.new.source in
     let right = IsRightInFolder g.H.Drive.Drive (g.H.Host.stores c.args.host.now c.args.dir.now) c.run_opened-finished.result.drives.items in
     rw (c.from-in-Ok-open.ensures, c.run_opened-finished.ensures.opening)
-    (also_well (Some c.in-Ok-open.hsm.opened) (SettlesOn (Some c.in-Ok-open.hsm.opened)) right true source c.run_opened-finished.result.cause c.run_opened-finished.result.history c.run_opened-finished.ensures.well
+    (also_keeps (Some c.in-Ok-open.hsm.opened) (SettlesOn (Some c.in-Ok-open.hsm.opened)) right true source c.run_opened-finished.result.cause c.run_opened-finished.result.history c.run_opened-finished.ensures.keeps
     (ran_with (SettlesOn (Some c.in-Ok-open.hsm.opened)) (λ ds marks. TellsOf g.H.Drive.Drive ds.items c.run_opened-finished.result.drives.items marks) right c.ask_for_drives-drives.result true source c.run_opened-finished.result.cause c.run_opened-finished.result.history
     (right_since g.H.Drive.Drive (g.H.Host.stores c.args.host.now c.args.dir.now) (λ ds. ds.items) c.ask_for_drives-drives.result c.run_opened-finished.result.drives.items
     (tallies_since g.H.Drive.Drive (g.H.Host.stores c.args.host.now c.args.dir.now) (g.H.Host.stores c.disk.new.self c.args.dir.now) (c.disk.ensures.folders c.args.dir.now) c.in-Ok-open.hsm.opened (λ ds. ds.items) c.ask_for_drives-drives.result c.run_opened-finished.result.drives.items c.ask_for_drives-drives.ensures.given))
@@ -126,6 +126,7 @@ pub returns-in-Ok-open-clause-legality : goal.returns-in-Ok-open-clause-legality
 returns-in-Ok-open-clause-legality g c = record {
   from = rw c.run_opened-finished.ensures.opening c.run_opened-finished.ensures.legality;
   orderly = rw c.run_opened-finished.ensures.opening c.run_opened-finished.ensures.orderly;
+  packed = rw c.run_opened-finished.ensures.opening c.run_opened-finished.ensures.packed;
   seen = rw c.run_opened-finished.ensures.opening (good_but_bytes _ (Some c.in-Ok-open.hsm.opened) _ c.run_opened-finished.ensures.legality);
   good = rw c.run_opened-finished.ensures.opening c.run_opened-finished.ensures.good;
   caused = λ is. failed_since g.H.Disk.Disk _ c.run_opened-finished.result.disk (counted_none g (goal.at.returns-in-Ok-open-clause-legality g c).After-run_opened-finished) (c.run_opened-finished.ensures.caused is);
@@ -203,9 +204,10 @@ returns-in-Ok-open-clause-deeds g c =
     let finished = c.run_opened-finished.result in
     let stored = g.H.Host.stores c.args.host.now c.args.dir.now in
     rw (c.from-in-Ok-open.ensures, c.run_opened-finished.ensures.opening)
+    (also_well (Some c.in-Ok-open.hsm.opened) _ (DrivesWent g.H.Drive.Drive standard stored finished.drives.items) finished.history c.run_opened-finished.ensures.well
     (done_as standard _ _ _ (DrivesWent g.H.Drive.Drive standard stored finished.drives.items) finished.history (λ deeds done. done)
     (went_since g.H.Drive.Drive stored (g.H.Host.stores c.disk.new.self c.args.dir.now) (c.disk.ensures.folders c.args.dir.now) (λ ds. ds.items) c.ask_for_drives-drives.result finished.drives.items c.ask_for_drives-drives.ensures.given (none_came _ (finished.drives.items ≡ []) c.ask_for_drives-drives.result c.run_opened-finished.ensures.drives))
-    c.run_opened-finished.ensures.deeds)
+    c.run_opened-finished.ensures.deeds))
 
 pub returns-in-Err-clause-deeds : goal.returns-in-Err-clause-deeds
 returns-in-Err-clause-deeds g c =

@@ -26,7 +26,7 @@ returns-in-Replay g c =
     let sink = sink_told g.O.Sink.taken g.O.Sink.fault_count c.args.sink.now c.replay.new.sink in
     let p = c.replay.ensures in
     subst (λ (f : Option Form). KeepsPromises g.H.Host g.H.Disk.Disk g.H.Drive.Drive f c.args.host.now c.args.host.now source sink c.replay.result) (has_form _ _ c.in-Replay.is)
-    (replay_keeps g.H.Host g.H.Disk.Disk g.H.Drive.Drive c.args.host.now c.args.host.now source sink c.replay.result p.ended p.legality p.faultless p.plain p.caused_by p.media c.one_script.ensures.script p.script p.deeds p.reading p.output p.reads p.writes p.source_once p.sink_once p.ends)
+    (replay_keeps g.H.Host g.H.Disk.Disk g.H.Drive.Drive c.args.host.now c.args.host.now source sink c.replay.result p.ended p.legality p.packed p.faultless p.plain p.caused_by p.media c.one_script.ensures.script p.script p.deeds p.reading p.output p.reads p.writes p.source_once p.sink_once p.ends)
 
 pub returns-in-ReplayStore : goal.returns-in-ReplayStore
 returns-in-ReplayStore g c =
@@ -61,4 +61,4 @@ returns-in-Drill g c =
     let sink = sink_told g.O.Sink.taken g.O.Sink.fault_count c.args.sink.now c.drill.new.sink in
     let p = c.drill.ensures in
     subst (λ (f : Option Form). KeepsPromises g.H.Host g.H.Disk.Disk g.H.Drive.Drive f c.args.host.now c.args.host.now source sink c.drill.result) (has_form _ _ c.in-Drill.is)
-    (drill_keeps g.H.Host g.H.Disk.Disk g.H.Drive.Drive c.args.host.now c.args.host.now source sink c.drill.result p.ended p.legality p.faultless p.plain p.caused_by p.media c.in-Drill.number p.script p.deeds p.output p.ends p.once (record { left = refl; faults = refl }))
+    (drill_keeps g.H.Host g.H.Disk.Disk g.H.Drive.Drive c.args.host.now c.args.host.now source sink c.drill.result p.ended p.legality p.packed p.faultless p.plain p.caused_by p.media c.in-Drill.number p.script p.deeds p.output p.ends p.once (record { left = refl; faults = refl }))
