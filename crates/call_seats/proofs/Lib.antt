@@ -1,0 +1,9 @@
+pub mod Beginnings
+pub mod Dealing
+pub mod Ending
+pub mod Keeping
+pub mod Meeting
+pub mod Orderly
+pub mod Places
+pub mod Seats
+pub mod Telling
