@@ -1,0 +1,4 @@
+use Rattle.hsm_threads.proofs.held.Held.close.Goals as goal
+
+pub returns-clause-held : goal.returns-clause-held
+returns-clause-held g c = c.self.invariant

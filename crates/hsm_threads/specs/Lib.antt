@@ -1,0 +1,5 @@
+pub mod Deeds
+pub mod Happens
+pub mod Lots
+pub mod Shares
+pub mod Steps
