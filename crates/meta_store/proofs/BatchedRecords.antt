@@ -22,8 +22,8 @@ use Rattle.meta_store.specs.Records.{CanStand, CanStandAll}
 use Rattle.snapshot_text.specs.Snapshots.{SnapshotFile, Snapshot, extents_from, snapshot_file}
 use Rattle.meta_store.specs.Snapshots.{snapshot_of}
 use Rattle.meta_store.specs.Validity.{names_in}
-use Rattle.meta_store.specs.Batches.{with_extent, with_extents, extents_below, extents_without, file_changed, key_in, changed, changed_all, HasFile}
-use Rattle.meta_store.specs.Batches.{HaveFiles, after_batch}
+use Rattle.meta_store.specs.Batches.{with_extent, with_extents, extents_below, extents_without, file_changed, key_in, changed, changed_all, Applies}
+use Rattle.meta_store.specs.Batches.{AllApply, after_batch}
 use Rattle.meta_store.specs.Meta.{Meta}
 use Rattle.meta_store.specs.Laws.{IsTakenAsBatch}
 use Rattle.meta_store.proofs.FileEdits.{name_of, map-put, map-drop}
@@ -166,25 +166,25 @@ record_same (SetAttr ino name value) number c can = both_same number _ _ _ _ ref
 record_same (DropAttr ino name) number c can = both_same number _ _ _ _ refl (one_same (DropAttr ino name) c can.0 can.1 can.2)
 record_same (Stub ino j stub) number c can = both_same number _ _ _ _ refl (one_same (Stub ino j stub) c can.0 can.1 can.2)
 
-has_file : (r : Record) (number : ℕ) (c : Catalog) → CanStand r c → HasFile r (snapshot_of number c)
+record_applies : (r : Record) (number : ℕ) (c : Catalog) → CanStand r c → Applies r (snapshot_of number c)
 unfolding snapshot_of
-has_file (Make key name) number c can = record { inode = ap (has_inode key.ino) (names_same c.files) ∙ can.inode; free = ap (named name) (names_same c.files) ∙ can.free; generation = can.generation }
-has_file (Drop ino) number c can = file_there ino can.0 c can.1
-has_file (Size ino size) number c can = file_there ino can.0 c can.1
-has_file (Map ino block places) number c can = file_there ino can.0 c can.1
-has_file (Regions ino regions) number c can = file_there ino can.0 c can.1
-has_file (SetAttr ino name value) number c can = file_there ino can.0 c can.1
-has_file (DropAttr ino name) number c can = file_there ino can.0 c can.1
-has_file (Stub ino j stub) number c can = file_there ino can.0 c can.1
+record_applies (Make key name) number c can = record { inode = ap (has_inode key.ino) (names_same c.files) ∙ can.inode; free = ap (named name) (names_same c.files) ∙ can.free; generation = can.generation }
+record_applies (Drop ino) number c can = file_there ino can.0 c can.1
+record_applies (Size ino size) number c can = file_there ino can.0 c can.1
+record_applies (Map ino block places) number c can = file_there ino can.0 c can.1
+record_applies (Regions ino regions) number c can = file_there ino can.0 c can.1
+record_applies (SetAttr ino name value) number c can = file_there ino can.0 c can.1
+record_applies (DropAttr ino name) number c can = file_there ino can.0 c can.1
+record_applies (Stub ino j stub) number c can = file_there ino can.0 c can.1
 
 -- ---- records
 
-stand_same : (rs : List Record) (number : ℕ) (c : Catalog) → CanStandAll rs c → HaveFiles rs (snapshot_of number c) × (changed_all rs (snapshot_of number c) ≡ snapshot_of number (after_all rs c))
+stand_same : (rs : List Record) (number : ℕ) (c : Catalog) → CanStandAll rs c → AllApply rs (snapshot_of number c) × (changed_all rs (snapshot_of number c) ≡ snapshot_of number (after_all rs c))
 stand_same [] number c can = (tt, refl)
 stand_same (r ∷ rs) number c can =
     let same = record_same r number c can.0 in
     let rest = stand_same rs number (after r c) can.1 in
-    ((has_file r number c can.0, subst (λ (s : Snapshot). HaveFiles rs s) (sym same) rest.0), ap (changed_all rs) same ∙ rest.1)
+    ((record_applies r number c can.0, subst (λ (s : Snapshot). AllApply rs s) (sym same) rest.0), ap (changed_all rs) same ∙ rest.1)
 
 renumbered : (number later : ℕ) (c : Catalog) → ◌≡◌ {A = Snapshot} (record (snapshot_of number c) { number = later }) (snapshot_of later c)
 unfolding snapshot_of

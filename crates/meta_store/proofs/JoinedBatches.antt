@@ -4,7 +4,7 @@ use Rattle.std.specs.List.{AllByRecursion}
 use Rattle.journal_records.specs.declared.records.Record.{Record}
 use Rattle.journal_records.specs.declared.records.Record.TheVariants.{Make, Drop, Size, Map, Regions, SetAttr, DropAttr, Stub}
 use Rattle.snapshot_text.specs.Snapshots.{Snapshot}
-use Rattle.meta_store.specs.Batches.{changed, changed_all, HasFile, HaveFiles, after_batch, IsLawful, CanFollow}
+use Rattle.meta_store.specs.Batches.{changed, changed_all, Applies, AllApply, after_batch, IsLawful, CanFollow}
 use Rattle.meta_store.specs.Laws.{AreJoined}
 
 -- the same store under another number
@@ -21,7 +21,7 @@ changed_under n (SetAttr ino name value) s = refl
 changed_under n (DropAttr ino name) s = refl
 changed_under n (Stub ino j stub) s = refl
 
-has_under : (n : ℕ) (r : Record) (s : Snapshot) → HasFile r (under n s) → HasFile r s
+has_under : (n : ℕ) (r : Record) (s : Snapshot) → Applies r (under n s) → Applies r s
 has_under n (Make key name) s h = record { inode = h.inode; free = h.free; generation = h.generation }
 has_under n (Drop ino) s h = h
 has_under n (Size ino size) s h = h
@@ -35,15 +35,15 @@ all_under : (n : ℕ) (rs : List Record) (s : Snapshot) → changed_all rs (unde
 all_under n [] s = refl
 all_under n (r ∷ rs) s = ap (changed_all rs) (changed_under n r s) ∙ all_under n rs (changed r s)
 
-have_under : (n : ℕ) (rs : List Record) (s : Snapshot) → HaveFiles rs (under n s) → HaveFiles rs s
+have_under : (n : ℕ) (rs : List Record) (s : Snapshot) → AllApply rs (under n s) → AllApply rs s
 have_under n [] s h = tt
-have_under n (r ∷ rs) s h = (has_under n r s h.0, have_under n rs (changed r s) (subst (λ (x : Snapshot). HaveFiles rs x) (changed_under n r s) h.1))
+have_under n (r ∷ rs) s h = (has_under n r s h.0, have_under n rs (changed r s) (subst (λ (x : Snapshot). AllApply rs x) (changed_under n r s) h.1))
 
 pub changed_both : (rs ss : List Record) (s : Snapshot) → changed_all (rs ++ ss) s ≡ changed_all ss (changed_all rs s)
 changed_both [] ss s = refl
 changed_both (r ∷ rs) ss s = changed_both rs ss (changed r s)
 
-pub have_both : (rs ss : List Record) (s : Snapshot) → HaveFiles rs s → HaveFiles ss (changed_all rs s) → HaveFiles (rs ++ ss) s
+pub have_both : (rs ss : List Record) (s : Snapshot) → AllApply rs s → AllApply ss (changed_all rs s) → AllApply (rs ++ ss) s
 have_both [] ss s h k = k
 have_both (r ∷ rs) ss s h k = (h.0, have_both rs ss (changed r s) h.1 k)
 

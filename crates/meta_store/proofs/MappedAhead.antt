@@ -11,7 +11,7 @@ use Rattle.snapshot_text.specs.Files.{CatalogFile, IsLawfulKept, IsCatalogFile, 
 use Rattle.meta_store.specs.Catalogs.{Catalog, IsCatalog}
 use Rattle.snapshot_text.specs.Snapshots.{SnapshotFile, Snapshot, extents_from, snapshot_file}
 use Rattle.meta_store.specs.Snapshots.{snapshot_of}
-use Rattle.meta_store.specs.Batches.{changed, after_batch, HaveFiles, CanFollow}
+use Rattle.meta_store.specs.Batches.{changed, after_batch, AllApply, CanFollow}
 use Rattle.meta_store.specs.Laws.{one_file, IsJudgedAtItsEnd}
 
 nothing_lawful : IsLawfulKept (geometry_of 0).limits nothing_kept
@@ -47,9 +47,9 @@ ends : (places : List ℕ) → places ≡ 7 ∷ [] → after_batch 4 (Map 1 0 pl
 unfolding snapshot_of
 ends places is = rw is refl
 
-have_files : (places : List ℕ) → HaveFiles (Map 1 0 places ∷ Size 1 4096 ∷ []) (snapshot_of 3 (one_file 0 []))
+both_apply : (places : List ℕ) → AllApply (Map 1 0 places ∷ Size 1 4096 ∷ []) (snapshot_of 3 (one_file 0 []))
 unfolding snapshot_of
-have_files places = (refl, (refl, tt))
+both_apply places = (refl, (refl, tt))
 
 fit : (places : List ℕ) → places ≡ 7 ∷ [] → AllByRecursion RecordFits (Map 1 0 places ∷ Size 1 4096 ∷ [])
 fit places is = rw is ((omega arith, (omega arith, omega arith, (omega arith, tt))), ((omega arith, omega arith), tt))
@@ -93,7 +93,7 @@ judged_at_its_end places is = (
   record {
     rises = rises;
     fit = fit places is;
-    files = have_files places;
+    files = both_apply places;
     lawful = record { catalog = one_file 4096 (Some 7 ∷ []); number = omega arith; kind = refl; lawful = one_lawful; lengths = (tt, tt); says = ends places is };
   },
   ends places is,

@@ -16,7 +16,7 @@ use Rattle.inode_table.proofs.Orders.{few}
 use Rattle.commit_slots.specs.Places.{layout_of}
 use Rattle.commit_slots.specs.Images.{empty_snapshot}
 use Rattle.snapshot_text.specs.declared.snapshot.Mapping.{Mapping}
-use Rattle.snapshot_text.specs.Files.{CatalogFile, StubFits, IsCatalogStub, IsCatalogFile, geometry_of, present}
+use Rattle.snapshot_text.specs.Files.{CatalogFile, NumbersFit, IsCatalogStub, IsCatalogFile, geometry_of, present}
 use Rattle.meta_store.specs.Catalogs.{Catalog, IsCatalog, blocks_of}
 use Rattle.meta_store.specs.Catalogs.{names_of, attribute_total, stub_total}
 use Rattle.journal_records.specs.Texts.{region_bytes}
@@ -100,7 +100,7 @@ module _ (g : Geometry) (next : ℕ) (few_blocks : g.blocks ≤ large_geometry.b
     extents = omega (arith, length-extents 0 f.places, present-few f.places, is.size, is.places, countable.0);
     each_extent = extents-fit 0 f.places (omega (arith, is.size, is.places, countable.0)) is.within;
     stubs = omega arith;
-    each_stub = each-as (IsCatalogStub f) StubFits f.kept.stubs (λ x stub. stub.numbers) is.stubs;
+    each_stub = each-as (IsCatalogStub f) NumbersFit f.kept.stubs (λ x stub. stub.numbers) is.stubs;
   }
 
   files-fit : (fs : List CatalogFile) → Within g.files next (names_of fs) → attribute_total fs ≤ large_geometry.attributes → stub_total fs ≤ large_geometry.stubs → AllByRecursion (IsCatalogFile g) fs → AllByRecursion FileFits (map snapshot_file fs)
@@ -131,7 +131,7 @@ length-mappings : (es : List Mapping) → length (flat_map extent_bytes es) ≡ 
 length-mappings [] = refl
 length-mappings (e ∷ es) = omega (arith, length-append (extent_bytes e) (flat_map extent_bytes es), length-mappings es)
 
-length-stubs : (stubs : Stubs) → AllByRecursion StubFits stubs → length (flat_map stub_bytes stubs) ≡ 49 * length stubs
+length-stubs : (stubs : Stubs) → AllByRecursion NumbersFit stubs → length (flat_map stub_bytes stubs) ≡ 49 * length stubs
 length-stubs [] fit = refl
 length-stubs (x ∷ stubs) fit = simp length-append (omega (arith, fit.0.entry.digest, length-stubs stubs fit.1))
 
@@ -143,7 +143,7 @@ file-short : (g : Geometry) (f : CatalogFile) → IsCountable g.limits → IsCat
 unfolding bytes_of_file
 file-short g f countable is =
     let k = is.kept in
-    let stubs = length-stubs f.kept.stubs (each-as (IsCatalogStub f) StubFits f.kept.stubs (λ x stub. stub.numbers) is.stubs) in
+    let stubs = length-stubs f.kept.stubs (each-as (IsCatalogStub f) NumbersFit f.kept.stubs (λ x stub. stub.numbers) is.stubs) in
     simp length-append (omega (arith, stubs, length-regions f.kept.regions, length-mappings (extents_from 0 f.places), length-extents 0 f.places, name-short f.name is.name, regions-few g.limits countable f.kept.regions k.regions, attributes-short f.kept.attributes k.eight))
 
 files-short : (g : Geometry) (fs : List CatalogFile) → IsCountable g.limits → AllByRecursion (IsCatalogFile g) fs

@@ -11,7 +11,7 @@ use Rattle.plain_model.specs.Blocks.{blocks_in, with_mapped}
 use Rattle.plain_model.specs.Distinct.{Distinct}
 use Rattle.inode_table.specs.Listing.{listing, key_named, Ascend}
 use Rattle.inode_table.specs.Table.{Table, entry_of}
-use Rattle.snapshot_text.specs.Files.{CatalogFile, StubFits, IsLawfulKept, IsCatalogFile, HasLengths, present}
+use Rattle.snapshot_text.specs.Files.{CatalogFile, NumbersFit, IsLawfulKept, IsCatalogFile, HasLengths, present}
 use Rattle.meta_store.specs.Catalogs.{Catalog, names_of, blocks_of}
 use Rattle.meta_store.specs.Records.{with_put}
 use Rattle.snapshot_text.specs.Snapshots.{SnapshotFile, snapshot_file, extents_from}
@@ -53,7 +53,7 @@ module _ {g : Geometry} {next : ℕ} {c : Catalog} {flags : List Bool} {f : Snap
   pub flags-tell : (are_free (places_of f.extents) flags ≡ are_unused (places_in (map snapshot_file c.files)) (places_of f.extents)) × Flags (with_mapped (places_of f.extents) flags) (places_in (map snapshot_file c.files) ++ places_of f.extents)
   flags-tell = free-is (places_of f.extents) flags (places_in (map snapshot_file c.files)) (each-map (λ p. p < length flags) (λ e. e.place) f.extents within) t.flagged
 
-  pub is-lawful : IsLawfulKept g.limits f.kept → AreJudged f → AllByRecursion StubFits f.kept.stubs → IsCatalogFile g (filled f)
+  pub is-lawful : IsLawfulKept g.limits f.kept → AreJudged f → AllByRecursion NumbersFit f.kept.stubs → IsCatalogFile g (filled f)
   is-lawful kept stubs fit = record {
     generation = follows.first;
     name = follows.name;

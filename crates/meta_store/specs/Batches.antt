@@ -1,4 +1,4 @@
--- What a batch of a journal may be. Its records change, one after the other, what a snapshot would say of the files. Each is to have its file where it stands;
+-- What a batch of a journal may be. Its records change, one after the other, what a snapshot would say of the files. Each is to apply where it stands;
 -- all else is judged by what stands after the last of them, and not by what stands in between: there a block may lie past its file's end.
 use Rattle.std.specs.Prelude.{◌≡◌, ℕ, ◌+◌, ◌*◌, ◌≤◌, List, [], ◌∷◌, length, filter, Bool, true, false, not, ◌&&◌, ◌==◌, nat_lt, nat_le, if◌then◌else◌, Some, None}
 use Rattle.std.specs.List.{list_any, AllByRecursion}
@@ -84,15 +84,15 @@ pub record IsNew (key : FileKey) (name : List ℕ) (s : Snapshot) : Type 0 where
   pub free : named name (names_in s.files) ≡ None
   pub generation : s.next ≤ key.igen
 
--- a file has the inode
-abbrev pub HasFile : Record → Snapshot → Type 0
-HasFile (Make key name) s = IsNew key name s
-HasFile r s = has_inode (inode_of r) (names_in s.files) ≡ true
+-- what the record speaks of is there: a file with its inode, or for one that makes a file room for that
+abbrev pub Applies : Record → Snapshot → Type 0
+Applies (Make key name) s = IsNew key name s
+Applies r s = has_inode (inode_of r) (names_in s.files) ≡ true
 
--- each has its file after those before it
-abbrev pub HaveFiles : List Record → Snapshot → Type 0
-HaveFiles [] s = Unit {0}
-HaveFiles (r ∷ rs) s = HasFile r s × HaveFiles rs (changed r s)
+-- each does after those before it
+abbrev pub AllApply : List Record → Snapshot → Type 0
+AllApply [] s = Unit {0}
+AllApply (r ∷ rs) s = Applies r s × AllApply rs (changed r s)
 
 -- a valid snapshot of a store of that geometry could say this
 pub record IsLawful (geometry : ℕ) (s : Snapshot) : Type 0 where
@@ -107,11 +107,11 @@ pub record IsLawful (geometry : ℕ) (s : Snapshot) : Type 0 where
 abbrev pub after_batch : ℕ → List Record → Snapshot → Snapshot
 after_batch number rs s = record (changed_all rs s) { number = number }
 
--- These records can stand in a batch of that number behind this store: each can be spelled, and has its file.
+-- These records can stand in a batch of that number behind this store: each can be spelled, and applies.
 pub record CanFollow (geometry : ℕ) (s : Snapshot) (number : ℕ) (rs : List Record) : Type 0 where
   pub rises : s.number ≤ number
   pub fit : AllByRecursion RecordFits rs
-  pub files : HaveFiles rs s
+  pub files : AllApply rs s
   pub lawful : IsLawful geometry (after_batch number rs s)
 
 -- ---- by what a batch is judged: by the files that its records are about, and by what is asked of all files together

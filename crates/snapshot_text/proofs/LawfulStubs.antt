@@ -11,7 +11,7 @@ use Rattle.hsm_types.specs.declared.stubs.Stub.{Stub}
 use Rattle.hsm_types.specs.declared.regions.Region.{Region}
 use Rattle.hsm_types.specs.Segments.{segment_len}
 use Rattle.hsm_types.specs.Stubs.{Stubs, stub_at, with_stub, punched, FitsFile, entry_print}
-use Rattle.snapshot_text.specs.Files.{CatalogFile, StubFits, HasNoBlocks, IsCatalogStub, HasLengths, places_in_segment}
+use Rattle.snapshot_text.specs.Files.{CatalogFile, NumbersFit, HasNoBlocks, IsCatalogStub, HasLengths, places_in_segment}
 use Rattle.snapshot_text.specs.FileValidity.{is_above, AreLawfulStubs}
 use Rattle.snapshot_text.proofs.EachOf.{all-both, all-parts, each-as, each-and}
 
@@ -72,7 +72,7 @@ pub lawful-at : (size : ℕ) (regions : List Region) (places : List (Option ℕ)
 lawful-at size regions places front x rest before are ends =
     (((all-parts (FitsFile size regions) front (x ∷ rest) are.fit.each).1.0, (all-parts (HasNoBlocks places) front (x ∷ rest) are.away).1.0), (ends x.0).1 (front-below front x rest are.fit.ascend))
 
-pub stubs-tell : (f : CatalogFile) (stubs : Stubs) → AllByRecursion (FitsFile f.size f.kept.regions) stubs → AllByRecursion (HasNoBlocks f.places) stubs → AllByRecursion StubFits stubs → AllByRecursion (IsCatalogStub f) stubs
+pub stubs-tell : (f : CatalogFile) (stubs : Stubs) → AllByRecursion (FitsFile f.size f.kept.regions) stubs → AllByRecursion (HasNoBlocks f.places) stubs → AllByRecursion NumbersFit stubs → AllByRecursion (IsCatalogStub f) stubs
 stubs-tell f [] fit away numbers = tt
 stubs-tell f (x ∷ stubs) fit away numbers = (record { fits = record { start = fit.0.start; len = refl; volume = fit.0.volume; covered = fit.0.covered }; away = away.0; numbers = numbers.0 }, stubs-tell f stubs fit.1 away.1 numbers.1)
 

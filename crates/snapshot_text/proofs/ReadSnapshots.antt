@@ -12,7 +12,7 @@ use Rattle.journal_records.specs.Texts.{state_of}
 use Rattle.journal_records.specs.Reading.{Fails}
 use Rattle.journal_records.proofs.Readers.{IsBytes, IsReader, IsWide, wide1, wide4, number_reads, both_read, made_reads}
 use Rattle.journal_records.proofs.RecordReaders.{long_reads, int_reads, listed_read, name_reads, attr_name_reads, value_reads, regions_read, entry_reads}
-use Rattle.snapshot_text.specs.Files.{StubFits}
+use Rattle.snapshot_text.specs.Files.{NumbersFit}
 use Rattle.snapshot_text.specs.Snapshots.{Snapshot, key_bytes, attribute_bytes, extent_bytes, stub_bytes}
 use Rattle.snapshot_text.specs.Snapshots.{bytes_of_file, spelling, AttributeFits, ExtentFits, FileFits, Fits, IsSpelled}
 use Rattle.snapshot_text.specs.Reading.{unread_as, only_at, key_at, attribute_at, extent_at, state_at, stub_in, file_at, snapshot_at}
@@ -43,7 +43,7 @@ state_reads = record {
   again = λ offline rest fit. grind (arith, (number_reads wide1).again (state_of offline) rest);
 }
 
-stub_reads : IsReader stub_in stub_bytes StubFits
+stub_reads : IsReader stub_in stub_bytes NumbersFit
 unfolding stub_in
 stub_reads = made_reads (both_read (both_read int_reads state_reads) entry_reads) (λ x. ((x.0, x.1.offline), x.1.entry)) (λ x. refl) (λ p. refl) (λ p fit. search) (λ x fit. search)
 

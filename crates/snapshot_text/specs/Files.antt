@@ -41,7 +41,7 @@ abbrev pub places_in_segment : ℕ → List (Option ℕ) → List (Option ℕ)
 places_in_segment j places = take segment_blocks (drop (segment_blocks * j) places)
 
 -- each number of a segment and its entry is one that its field can hold
-pub record StubFits (x : ℕ × Stub) : Type 0 where
+pub record NumbersFit (x : ℕ × Stub) : Type 0 where
   pub segment : x.0 < 2 ^ 32
   pub entry : EntryFits x.1.entry
 
@@ -61,7 +61,7 @@ HasNoBlocks places x = x.1.offline ≡ true → present (places_in_segment x.0 p
 pub record IsCatalogStub (f : CatalogFile) (x : ℕ × Stub) : Type 0 where
   pub fits : FitsButLength f x
   pub away : HasNoBlocks f.places x
-  pub numbers : StubFits x
+  pub numbers : NumbersFit x
 
 -- each of the file's entries has the length of its segment
 abbrev pub HasLengths : CatalogFile → Type 0

@@ -7,7 +7,7 @@ use Rattle.hsm_types.specs.Stubs.{offline_at}
 use Rattle.snapshot_text.specs.declared.file_parts.FileParts.{FileParts}
 use Rattle.journal_records.specs.declared.records.Record.{Record}
 use Rattle.journal_records.specs.declared.records.Record.TheVariants.{Size, Map, SetAttr, Stub}
-use Rattle.snapshot_text.specs.Files.{CatalogFile, StubFits}
+use Rattle.snapshot_text.specs.Files.{CatalogFile, NumbersFit}
 use Rattle.snapshot_text.specs.FileRecords.{file_after, FitsStub}
 
 -- of a new file
@@ -39,7 +39,7 @@ FitsParts r parts = Unit {0}
 
 -- each number of an entry that the record sets is one that its field can hold
 abbrev pub IsNumbered : Record → Type 0
-IsNumbered (Stub ino j (Some stub)) = StubFits (j, stub)
+IsNumbered (Stub ino j (Some stub)) = NumbersFit (j, stub)
 IsNumbered r = Unit {0}
 
 -- the name of an attribute that the record sets has eight bytes

@@ -10,7 +10,7 @@ use Rattle.journal_records.specs.Texts.{sized_bytes, counted_bytes, region_bytes
 use Rattle.snapshot_text.specs.declared.snapshot.Mapping.{Mapping}
 use Rattle.snapshot_text.specs.declared.snapshot.RawFile.{RawFile}
 use Rattle.snapshot_text.specs.declared.snapshot.RawSnapshot.{RawSnapshot}
-use Rattle.snapshot_text.specs.Files.{CatalogFile, StubFits}
+use Rattle.snapshot_text.specs.Files.{CatalogFile, NumbersFit}
 
 -- a file as a snapshot spells it
 pub record SnapshotFile : Type 0 where
@@ -81,7 +81,7 @@ pub record FileFits (f : SnapshotFile) : Type 0 where
   pub extents : length f.extents < 2 ^ 32
   pub each_extent : AllByRecursion ExtentFits f.extents
   pub stubs : length f.kept.stubs < 2 ^ 32
-  pub each_stub : AllByRecursion StubFits f.kept.stubs
+  pub each_stub : AllByRecursion NumbersFit f.kept.stubs
 
 pub record Fits (s : Snapshot) : Type 0 where
   pub number : s.number < 2 ^ 64

@@ -12,7 +12,7 @@ ghost use Rattle.hsm_types.specs.Stubs.{offline_at, stubs_below, too_many_stubs,
 ghost use Rattle.hsm_types.specs.declared.dm.DmRefusal.TheVariants.{Memory};
 ghost use Rattle.hsm_types.specs.declared.dm.DmRefusal.{DmRefusal};
 ghost use Rattle.snapshot_text.specs.Parts.{no_parts, kept_in, parts_after, FitsParts, IsNumbered, IsNamed};
-ghost use Rattle.snapshot_text.specs.Files.{StubFits, present, places_in_segment};
+ghost use Rattle.snapshot_text.specs.Files.{NumbersFit, present, places_in_segment};
 ghost use Rattle.snapshot_text.specs.FileRecords.{part_refusal, places_fitted, places_without, FitsStub, IsSure};
 
 use crate::file_places::{FilePlaces, count_present, segment_places};
@@ -201,7 +201,7 @@ impl FileParts {
         ensures taken { OnOk result (self.new ≡ record self.old { places = if stub.offline then places_without segment self.old.places else self.old.places; stubs = with_stub segment stub self.old.stubs }) }
         ensures refused { IfErr result (λ why. MatchOption (too_many_stubs segment others limit self.old.stubs) (why ≡ Memory) (λ cause. why ≡ cause)) }
         ensures sure { stub.offline ≡ true → IsOk result }
-        ensures numbers { StubFits (segment, stub) }
+        ensures numbers { NumbersFit (segment, stub) }
         ensures err { OnErr result (self.new ≡ self.old) }
     {
         // Read for the order of the entries.

@@ -3,7 +3,7 @@ ghost use Rattle.std.specs.Prelude.{◌≡◌, ◌↔◌, ◌++◌, ◌<◌, [],
 ghost use Rattle.std.specs.List.{AllByRecursion};
 ghost use Rattle.hsm_types.specs.Segments.{segment_len};
 ghost use Rattle.hsm_types.specs.Stubs.{FitsFile};
-ghost use Rattle.snapshot_text.specs.Files.{present, places_in_segment, StubFits, HasNoBlocks};
+ghost use Rattle.snapshot_text.specs.Files.{present, places_in_segment, NumbersFit, HasNoBlocks};
 ghost use Rattle.snapshot_text.specs.FileValidity.{is_above, AreLawfulStubs};
 
 use crate::file_places::{FilePlaces, count_present, segment_places};
@@ -26,7 +26,7 @@ pub(crate) fn stubs_of(
     ensures lawful { OnOk result (AreLawfulStubs size regions.now places.now stubs.now) }
     ensures within { OnOk result (length stubs.now ≤ limit) }
     ensures ok { IfOk result (λ kept. kept ≡ stubs.now) }
-    ensures fits { IfOk result (AllByRecursion StubFits) }
+    ensures fits { IfOk result (AllByRecursion NumbersFit) }
     ensures corrupt { IsErrOf result ReadRefusal.Corrupt → AreLawfulStubs size regions.now places.now stubs.now → length stubs.now ≤ limit → ⊥ }
 {
     let mut kept = StubMap::new(alloc);
@@ -50,7 +50,7 @@ fn put(kept: &mut StubMap, segment: u32, stub: Stub, limit: u32) -> Result<(), R
     requires { AllByRecursion (λ x. x.0 < segment) kept.old }
     ensures ok { OnOk result (kept.new ≡ kept.old ++ (segment, stub) ∷ []) }
     ensures few { OnOk result (length kept.old < limit) }
-    ensures fits { StubFits (segment, stub) }
+    ensures fits { NumbersFit (segment, stub) }
     ensures corrupt { IsErrOf result ReadRefusal.Corrupt → length kept.old < limit → ⊥ }
 {
     // Read for the bytes of each digest.

@@ -4,7 +4,7 @@ ghost use Rattle.std.specs.Result.{IsErrOf};
 ghost use Rattle.std.specs.List.{AllByRecursion};
 ghost use Rattle.hsm_types.specs.Limits.{IsCountable};
 ghost use Rattle.plain_model.specs.Blocks.{blocks_in};
-ghost use Rattle.snapshot_text.specs.Files.{StubFits, IsLawfulKept};
+ghost use Rattle.snapshot_text.specs.Files.{NumbersFit, IsLawfulKept};
 ghost use Rattle.snapshot_text.specs.Snapshots.{raw_file};
 ghost use Rattle.snapshot_text.specs.FileValidity.{parts_said, MayKeep};
 
@@ -33,7 +33,7 @@ pub fn parts_of(
     ensures made { IfOk result (λ p. p ≡ parts_said (raw_file file.old)) }
     ensures kept { OnOk result (MayKeep limits room stub_room (raw_file file.old)) }
     ensures lawful { OnOk result (IsLawfulKept limits (raw_file file.old).kept) }
-    ensures numbers { OnOk result (AllByRecursion StubFits (raw_file file.old).kept.stubs) }
+    ensures numbers { OnOk result (AllByRecursion NumbersFit (raw_file file.old).kept.stubs) }
     ensures corrupt { IsErrOf result ReadRefusal.Corrupt → MayKeep limits room stub_room (raw_file file.old) → ⊥ }
     ensures key { file.new.key ≡ file.old.key }
     ensures name { file.new.name ≡ file.old.name }

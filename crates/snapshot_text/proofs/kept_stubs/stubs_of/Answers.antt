@@ -3,7 +3,7 @@ use Rattle.std.specs.List.{AllByRecursion}
 use Rattle.std.proofs.lemmas.List.{drop_more}
 use Rattle.hsm_types.specs.Stubs.{Stubs, FitsFile, entry_at}
 use Rattle.hsm_types.specs.declared.stubs.Stub.{Stub}
-use Rattle.snapshot_text.specs.Files.{StubFits, HasNoBlocks}
+use Rattle.snapshot_text.specs.Files.{NumbersFit, HasNoBlocks}
 use Rattle.snapshot_text.specs.FileValidity.{is_above}
 use Rattle.snapshot_text.proofs.EachOf.{all-both}
 use Rattle.snapshot_text.proofs.LawfulStubs.{ends-more, lawful-at}
@@ -26,7 +26,7 @@ loop-entry-preserved c =
       away = more (HasNoBlocks c.args.places.now) so_far.away lawful.1;
       ends = ends-more x.0 x.1 kept ((so_far.ends x.0).0 (sym c.is_above.ensures ∙ c.if-not-is_above.false));
       within = omega (arith, length-append kept (x ∷ []), c.in_ok-put.ensures.few);
-      fits = more StubFits so_far.fits c.in_ok-put.ensures.fits;
+      fits = more NumbersFit so_far.fits c.in_ok-put.ensures.fits;
     })
 
 pub returns-then-not-is_above-clause-corrupt : goal.returns-then-not-is_above-clause-corrupt

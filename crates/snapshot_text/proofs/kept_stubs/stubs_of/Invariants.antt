@@ -1,7 +1,7 @@
 use Rattle.std.proofs.Common.{◌≡◌, ◌≤◌, ◌++◌, drop, length}
 use Rattle.std.specs.List.{AllByRecursion}
 use Rattle.hsm_types.specs.Stubs.{FitsFile}
-use Rattle.snapshot_text.specs.Files.{StubFits, HasNoBlocks}
+use Rattle.snapshot_text.specs.Files.{NumbersFit, HasNoBlocks}
 use Rattle.snapshot_text.proofs.LawfulStubs.{IsEnd}
 use Rattle.snapshot_text.proofs.kept_stubs.stubs_of.Given as goal
 
@@ -12,5 +12,5 @@ invariant-loop-entry l = record {
   away : AllByRecursion (HasNoBlocks l.places) l.kept;
   ends : IsEnd l.before l.kept;
   within : length l.kept ≤ l.limit;
-  fits : AllByRecursion StubFits l.kept;
+  fits : AllByRecursion NumbersFit l.kept;
 }
