@@ -19,7 +19,7 @@ use Rattle.daemon_session.specs.declared.members.Step.{Step}
 use Rattle.daemon_session.specs.declared.members.Step.TheVariants as step
 use Rattle.hsm_types.specs.Daemons.{information}
 use Rattle.daemon_session.specs.Tellings.{events_in}
-use Rattle.daemon_session.specs.Going.{member_in, IsQuerying, IsFinding, QueriesNext, FindsNext, Makes, Queries}
+use Rattle.daemon_session.specs.SessionSteps.{member_in, IsQuerying, IsFinding, QueriesNext, FindsNext, Makes, Queries}
 use Rattle.daemon_session.specs.Members.{Membership, Enters, with_kept, asked_in}
 use Rattle.daemon_session.specs.Seats.{first_id}
 

@@ -1,5 +1,5 @@
 pub mod Tellings
 pub mod Seats
-pub mod Going
+pub mod SessionSteps
 pub mod Keeping
 pub mod Members

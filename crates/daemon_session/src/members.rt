@@ -33,7 +33,7 @@ pub struct Member {
 }
 
 impl Model for Member {
-    ghost use Rattle.daemon_session.specs.Going.{member_in};
+    ghost use Rattle.daemon_session.specs.SessionSteps.{member_in};
     ghost use Rattle.daemon_session.specs.Members.{Membership};
 
     ghost Value = { Membership };

@@ -7,7 +7,7 @@ ghost use Rattle.hsm_types.specs.declared.daemons.Heard.TheVariants as Heard;
 ghost use Rattle.hsm_types.specs.declared.dm.DmReply.TheVariants.{Refused};
 ghost use Rattle.daemon_session.specs.declared.entering.Entering.TheVariants.{Listing, Making, Setting, Recollecting};
 ghost use Rattle.daemon_session.specs.declared.members.Step.TheVariants.{Asks};
-ghost use Rattle.daemon_session.specs.Going.{member_in, IsQuerying, IsFinding, Queries, QueriesNext, FindsNext, Makes};
+ghost use Rattle.daemon_session.specs.SessionSteps.{member_in, IsQuerying, IsFinding, Queries, QueriesNext, FindsNext, Makes};
 ghost use Rattle.daemon_session.specs.Members.{begun, asked_in, IsOnWay, Enters};
 
 use crate::entering::Entering;

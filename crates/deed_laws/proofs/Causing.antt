@@ -215,7 +215,7 @@ module _ (s : Superblock) (st : State) where
   given_rests k (act.Dm x c) rests = asked_rests k x c rests
   given_rests k given rests = tt
 
-  gave : (es : List Entry) (m : recall.Machine) (told : Heard) (given : Act) (n : recall.Machine) → recall.GoesOn m told given n → Knows es (hearing m (Some told)) → Knows es (hearing n None)
+  gave : (es : List Entry) (m : recall.Machine) (told : Heard) (given : Act) (n : recall.Machine) → recall.StepsOn m told given n → Knows es (hearing m (Some told)) → Knows es (hearing n None)
   gave es m told given n goes is =
       let k : recalls.Known = recalls.knows_by m.known m.asked told in
       let rests : ActRests k given = act_rests k m.asked told given goes.may in

@@ -27,7 +27,7 @@ use Rattle.hsm_policy.specs.Settings.{Numbers}
 use Rattle.daemon_session.specs.Seats.{Seat}
 use Rattle.migrate_daemon.specs.Machine as migrate
 use Rattle.recall_daemon.specs.Machine as recall
-use Rattle.marked_history.specs.Tokens.{Keeps}
+use Rattle.marked_history.specs.Tokens.{KeepsEvent}
 use Rattle.marked_history.proofs.Accounting.{AllAccounted, seated_keeps}
 use Rattle.marked_history.proofs.BothSeats.{left_tokened}
 use Rattle.marked_history.proofs.Carrying.{Each, none_each}
@@ -39,7 +39,7 @@ use Rattle.deeds.specs.Lives.{Workings, Living, Move, Begins, Learns, Fails, hea
 use Rattle.hsm_system.specs.Lives.{recalls, migrates}
 use Rattle.deed_laws.specs.Keeping.{loses_next, IsTaken, IsLost, KeepsAll, ServedKeepsAll}
 use Rattle.deed_laws.specs.Knowing.{seat_behind}
-use Rattle.deed_laws.proofs.Going.{Gone, gone_more, gone_end, no_entry, not_own}
+use Rattle.deed_laws.proofs.UnknownTokens.{Gone, gone_more, gone_end, no_entry, not_own}
 use Rattle.deed_laws.proofs.Machines.{recall_sits, migrate_sits, seat_in, recall_behind, migrate_behind}
 use Rattle.deed_laws.proofs.Seats as seats
 use Rattle.deed_laws.proofs.Seats.{Seats, seats_of, Stands, Both, other_side, first_both}
@@ -182,7 +182,7 @@ seat_is : {M : Type 0} (d : Daemon) (w : Workings M) (sits : Sits d w) (r : Opti
 seat_is d w sits None = refl
 seat_is d w sits (Some r) = refl
 
-keeps_or : (d : Daemon) (deeds : List Deed) (seat : Seat) (t : Token) → Keeps seat.kept t ⊎ Gone d deeds [] t → Keeps seat.kept t ⊎ (IsTaken d deeds t ⊎ IsLost d deeds t)
+keeps_or : (d : Daemon) (deeds : List Deed) (seat : Seat) (t : Token) → KeepsEvent seat.kept t ⊎ Gone d deeds [] t → KeepsEvent seat.kept t ⊎ (IsTaken d deeds t ⊎ IsLost d deeds t)
 keeps_or d deeds seat t (inl keeps) = inl keeps
 keeps_or d deeds seat t (inr gone) = inr (gone_end d deeds t gone)
 

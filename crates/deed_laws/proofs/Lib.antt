@@ -3,10 +3,10 @@ pub mod Machines
 pub mod Walking
 mod Keeping
 mod Telling
-mod Coming
+mod KnownOnTheWay
 mod TakingOver
 mod MakingAnew
 mod Causing
-pub mod Going
+pub mod UnknownTokens
 mod Seats
 mod KeepingAll

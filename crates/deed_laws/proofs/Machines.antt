@@ -28,7 +28,7 @@ use Rattle.marked_history.proofs.Seating.{migrate_so}
 use Rattle.deeds.specs.Deeds.{Deed, call_told}
 use Rattle.deeds.specs.Leads.{Situation, nothing_done, Leads}
 use Rattle.deeds.specs.Lives.{untold, life, Workings, Living}
-use Rattle.deeds.specs.Standing.{Standing, standing_of, IsKnown}
+use Rattle.deeds.specs.KnownByMoves.{Standing, standing_of, IsKnown}
 use Rattle.deeds.proofs.Living.{exactly}
 use Rattle.hsm_system.specs.Lives as lives
 use Rattle.deed_laws.specs.Knowing.{Counted, recall_knows, migrate_knows, known_now, seat_or_none, seat_behind}

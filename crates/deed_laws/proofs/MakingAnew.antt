@@ -49,8 +49,8 @@ use Rattle.deeds.specs.Lives.{Workings, Living, Move, Asks, Learns, hearing, mov
 use Rattle.deeds.proofs.Leading.{leads_through}
 use Rattle.deeds.proofs.Living.{entries_then, life_then}
 use Rattle.hsm_system.specs.Lives.{recalls, migrates}
-use Rattle.deed_laws.specs.Coming.{StaysOn, IsAlone, ServedMakesAnew}
-use Rattle.deed_laws.proofs.Coming.{HearsOn, KeepsWay, Both, KnowsWay, way_more, way_on}
+use Rattle.deed_laws.specs.DaemonSessions.{StaysOn, IsAlone, ServedMakesAnew}
+use Rattle.deed_laws.proofs.KnownOnTheWay.{HearsOn, KeepsWay, Both, KnowsWay, way_more, way_on}
 use Rattle.deed_laws.proofs.Machines.{recall_sits, migrate_sits}
 use Rattle.deed_laws.proofs.Sitting.{HasGiven, Sits, Sound}
 use Rattle.deed_laws.proofs.Walking.{after, Happens, behind, IsBehind, behind_more}

@@ -41,7 +41,7 @@ use Rattle.deeds.specs.Deeds.{Deed, Enters, Hears, Breaks, call_told, entry_of, 
 use Rattle.deeds.specs.Lives.{Workings, Living, Move, Begins, Ends, Renews, Asks, Learns, Fails, Misses, hearing, begun, renewed, untold, move_of, deed_by}
 use Rattle.deeds.specs.Lives.{life, MovesTo}
 use Rattle.deed_laws.specs.Keeping.{loses_next, FindsAgain}
-use Rattle.deed_laws.proofs.Going.{Gone, gone_more, gone_last, not_own}
+use Rattle.deed_laws.proofs.UnknownTokens.{Gone, gone_more, gone_last, not_own}
 use Rattle.deed_laws.proofs.Sitting.{Remarked, Gave, HasAsked, HasGiven, Sits, IsSound, given_seat, seat_now, unheard}
 
 least : (n : ℕ) → n ≤ n

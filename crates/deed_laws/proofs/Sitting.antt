@@ -81,9 +81,9 @@ pub record Sits {M : Type 0} (d : Daemon) (w : Workings M) : Type 1 where
   pub again : (m : M) → seat (w.again m) ≡ seat m
   pub again_told : (m : M) (h : Heard) → told (w.again m) (untold h) ≡ told m h
   pub again_so : (m : M) → IsSo m → IsSo (w.again m)
-  pub gives : (m : M) (h : Heard) (asked : Act) (n : M) → w.GoesOn m h asked n → Gave (told m h) asked (seat n)
-  pub gives_so : (m : M) (h : Heard) (asked : Act) (n : M) → w.GoesOn m h asked n → IsSo n
-  pub may : (m : M) (h : Heard) (x : Sid) (c : DmCall) (n : M) → w.GoesOn m h (act.Dm x c) n → MayAsk d (told m h) x c
+  pub gives : (m : M) (h : Heard) (asked : Act) (n : M) → w.StepsOn m h asked n → Gave (told m h) asked (seat n)
+  pub gives_so : (m : M) (h : Heard) (asked : Act) (n : M) → w.StepsOn m h asked n → IsSo n
+  pub may : (m : M) (h : Heard) (x : Sid) (c : DmCall) (n : M) → w.StepsOn m h (act.Dm x c) n → MayAsk d (told m h) x c
   pub answered : (m : M) (x : Sid) (c : DmCall) (a : DmReply) (P : Seat → Type 0) → IsSo m → w.asked m ≡ act.Dm x c → Keeps P c a (seat_hears d (seat_asks (seat m) c) c a) → P (told m (heard.Dm a))
   pub unanswered : (m : M) (h : Heard) → call_told (w.asked m) h ≡ None → Remarked (seat m) (told m h)
 
@@ -120,12 +120,12 @@ module _ {M : Type 0} (d : Daemon) (w : Workings M) (sits : Sits d w) where
     given = subst (λ (s : Seat). HasGiven d s (w.asked (w.again r.machine))) (sym (sits.again r.machine)) (subst (HasGiven d (sits.seat r.machine)) (sym (w.still r.machine)) is.given);
   }
 
-  gave_given : (m : M) (h : Heard) (asked : Act) (n : M) → w.GoesOn m h asked n → HasGiven d (sits.seat n) asked
+  gave_given : (m : M) (h : Heard) (asked : Act) (n : M) → w.StepsOn m h asked n → HasGiven d (sits.seat n) asked
   gave_given m h (act.Dm x c) n goes =
       subst (λ (s : Seat). HasGiven d s (act.Dm x c)) (sym (sits.gives m h (act.Dm x c) n goes)) (has_asked d (sits.told m h) x c (sits.may m h x c n goes), asks_twice (sits.told m h) c)
   gave_given m h asked n goes = tt
 
-  asks_sound : (m : M) (h : Heard) (asked : Act) (n : M) → w.GoesOn m h asked n → IsSound (hearing n None)
+  asks_sound : (m : M) (h : Heard) (asked : Act) (n : M) → w.StepsOn m h asked n → IsSound (hearing n None)
   asks_sound m h asked n goes = record { so = sits.gives_so m h asked n goes; given = subst (HasGiven d (sits.seat n)) (sym (w.gives m h asked n goes)) (gave_given m h asked n goes) }
 
   pub sound_on : (move : Move) (old new : Option (Living M)) → MovesTo w move old new → Sound old → Sound new

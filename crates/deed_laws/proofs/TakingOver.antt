@@ -25,9 +25,9 @@ use Rattle.deeds.specs.Lives.{MovesTo, Lives}
 use Rattle.deeds.proofs.Finding.{moves_are_deeds}
 use Rattle.deeds.proofs.Leading.{leads_through}
 use Rattle.hsm_system.specs.Lives.{recalls, migrates}
-use Rattle.deed_laws.specs.Coming.{StaysOn, IsKnownAs, ServedTakesOver}
+use Rattle.deed_laws.specs.DaemonSessions.{StaysOn, IsKnownAs, ServedTakesOver}
 use Rattle.deed_laws.proofs.Sitting.{HasGiven, Sits, Sound, along}
-use Rattle.deed_laws.proofs.Coming.{HearsOn, KeepsWay, Both, KnowsWay, way_on}
+use Rattle.deed_laws.proofs.KnownOnTheWay.{HearsOn, KeepsWay, Both, KnowsWay, way_on}
 use Rattle.deed_laws.proofs.Machines.{recall_sits, migrate_sits}
 
 module _ (d : Daemon) where

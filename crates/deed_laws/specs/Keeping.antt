@@ -21,7 +21,7 @@ use Rattle.plain_model.specs.Laws.{IsRunSeen}
 use Rattle.hsm_policy.specs.Settings.{Numbers}
 use Rattle.daemon_session.specs.Seats.{IsSeated}
 use Rattle.hsm_core.specs.Packed.{ArePacked}
-use Rattle.marked_history.specs.Tokens.{Keeps}
+use Rattle.marked_history.specs.Tokens.{KeepsEvent}
 use Rattle.deeds.specs.Deeds.{Deed, Enters, Hears, Loses, entry_of, entries_of}
 use Rattle.deeds.specs.Leads.{Served}
 use Rattle.deeds.specs.Lives.{Move, Ends, Asks, Misses, life}
@@ -78,7 +78,7 @@ IsLost = HasGone WasLost
 -- Of its kinds a daemon with a session keeps each event that is outstanding to that session, but for those that lines took, and those of answers that are lost.
 abbrev pub KeepsAll : Daemon → Numbers → Superblock → State → List Deed → Type 0
 KeepsAll daemon limits s st deeds = (sid : Sid) (m : Message) → IsSeated (seat_behind limits daemon deeds) sid → Contains (outstanding_of sid (state_by s st (entries_of deeds)).sessions) m → takes (kinds_of daemon) m.kind ≡ true
-    → Keeps (seat_behind limits daemon deeds).kept m.token ⊎ (IsTaken daemon deeds m.token ⊎ IsLost daemon deeds m.token)
+    → KeepsEvent (seat_behind limits daemon deeds).kept m.token ⊎ (IsTaken daemon deeds m.token ⊎ IsLost daemon deeds m.token)
 
 abbrev pub ServedKeepsAll : Daemon → Numbers → Superblock → ℕ → Held → List Deed → Type 0
 ServedKeepsAll daemon limits s base h deeds =

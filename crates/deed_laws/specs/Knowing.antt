@@ -10,7 +10,7 @@ use Rattle.recall_daemon.specs.Known as recall
 use Rattle.migrate_daemon.specs.Known as migrate
 use Rattle.deeds.specs.Deeds.{Deed}
 use Rattle.deeds.specs.Lives.{life}
-use Rattle.deeds.specs.Standing.{Knowing, Standing, stands}
+use Rattle.deeds.specs.KnownByMoves.{Knowing, Standing, stands}
 
 -- ---- what each knows
 

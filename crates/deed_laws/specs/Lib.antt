@@ -1,5 +1,5 @@
 pub mod Knowing
 pub mod Telling
-pub mod Coming
+pub mod DaemonSessions
 pub mod Caused
 pub mod Keeping

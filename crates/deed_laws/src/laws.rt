@@ -8,7 +8,7 @@ ghost use Rattle.plain_model.specs.State.{Held};
 ghost use Rattle.hsm_policy.specs.Settings.{Numbers};
 ghost use Rattle.deeds.specs.Deeds.{Deed};
 ghost use Rattle.deed_laws.specs.Caused.{ServedIsCaused};
-ghost use Rattle.deed_laws.specs.Coming.{ServedMakesAnew, ServedTakesOver};
+ghost use Rattle.deed_laws.specs.DaemonSessions.{ServedMakesAnew, ServedTakesOver};
 ghost use Rattle.deed_laws.specs.Keeping.{ServedKeepsAll, LosesNoAnswer};
 ghost use Rattle.deed_laws.specs.Telling.{ServedTellsOne};
 

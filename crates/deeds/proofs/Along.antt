@@ -14,7 +14,7 @@ module _ {M : Type 0} (w : Workings M) (P : List Move → Living M → Type 0)
     (at_start : (before : List Move) → P (before ++ Begins ∷ []) (begun w))
     (at_begin : (before : List Move) (r : Living M) → P before r → P (before ++ Begins ∷ []) r)
     (at_renew : (before : List Move) (r : Living M) → P before r → P (before ++ Renews ∷ []) (renewed w r))
-    (at_ask : (before : List Move) (m : M) (told : Heard) (act : Act) (n : M) → P before (hearing m (Some told)) → w.GoesOn m told act n → P (before ++ Asks act ∷ []) (hearing n None))
+    (at_ask : (before : List Move) (m : M) (told : Heard) (act : Act) (n : M) → P before (hearing m (Some told)) → w.StepsOn m told act n → P (before ++ Asks act ∷ []) (hearing n None))
     (at_learn : (before : List Move) (m : M) (act : Act) (told : Heard) → P before (hearing m None) → w.asked m ≡ act → Fits act told → P (before ++ Learns act told ∷ []) (hearing m (Some told)))
     (at_fail : (before : List Move) (m : M) (sid : Sid) (call : DmCall) → P before (hearing m None) → w.asked m ≡ Dm sid call → P (before ++ Fails sid call ∷ []) (hearing m (Some Nothing)))
     (at_miss : (before : List Move) (r : Living M) → P before r → P (before ++ Misses ∷ []) (hearing r.machine (Some Nothing))) where

@@ -7,7 +7,7 @@ use Rattle.hsm_types.specs.declared.daemons.Heard.{Heard}
 use Rattle.hsm_types.specs.declared.daemons.Heard.TheVariants.{Nothing}
 use Rattle.deeds.specs.Deeds.{Deed, entry_in, entries_of}
 use Rattle.deeds.specs.Lives.{Move, Begins, Ends, Renews, Asks, Learns, Fails, Misses, move_of, life, Workings, Living, untold, MovesTo, Lives}
-use Rattle.deeds.specs.Standing.{Knowing, Standing, stands_by, stands, standing_of, IsKnown}
+use Rattle.deeds.specs.KnownByMoves.{Knowing, Standing, stands_by, stands, standing_of, IsKnown}
 
 pub entries_then : (xs ys : List Deed) → entries_of (xs ++ ys) ≡ entries_of xs ++ entries_of ys
 entries_then xs ys = filter_map-append entry_in xs ys

@@ -95,12 +95,12 @@ Fits asked told = ⊥
 -- ---- behind what a run goes on
 
 -- Behind such an answer a run goes on: it is no fault of the disk, and no want of memory.
-abbrev pub IsServed : Answer → Type 0
-IsServed (answer.Call (replied.Refused refused.Disk)) = ⊥
-IsServed (answer.Call (replied.Refused refused.Memory)) = ⊥
-IsServed (answer.Dm (Refused why.Disk)) = ⊥
-IsServed (answer.Dm (Refused why.Memory)) = ⊥
-IsServed told = Unit {0}
+abbrev pub StopsNothing : Answer → Type 0
+StopsNothing (answer.Call (replied.Refused refused.Disk)) = ⊥
+StopsNothing (answer.Call (replied.Refused refused.Memory)) = ⊥
+StopsNothing (answer.Dm (Refused why.Disk)) = ⊥
+StopsNothing (answer.Dm (Refused why.Memory)) = ⊥
+StopsNothing told = Unit {0}
 
 -- ---- what lines may do
 

@@ -1,6 +1,6 @@
 pub mod Deeds
 pub mod Lives
-pub mod Standing
+pub mod KnownByMoves
 pub mod Answers
 pub mod Leads
 pub mod Given

@@ -74,10 +74,10 @@ pub record Workings (M : Type 0) : Type 1 where
   pub first : M
   pub again : M → M
   pub asked : M → Act
-  pub GoesOn : M → Heard → Act → M → Type 0
+  pub StepsOn : M → Heard → Act → M → Type 0
   pub rests : asked first ≡ Idle
   pub still : (m : M) → asked (again m) ≡ asked m
-  pub gives : (old : M) (told : Heard) (act : Act) (new : M) → GoesOn old told act new → asked new ≡ act
+  pub gives : (old : M) (told : Heard) (act : Act) (new : M) → StepsOn old told act new → asked new ≡ act
 
 -- A machine that runs, and what it hears next. There is none while it awaits what comes of the act that it gave last.
 pub record Living (M : Type 0) : Type 0 where
@@ -108,7 +108,7 @@ module _ {M : Type 0} (w : Workings M) where
   MovesTo Begins old new = new ≡ option_or old (Some begun)
   MovesTo Ends old new = new ≡ None
   MovesTo Renews old new = new ≡ option_map renewed old
-  MovesTo (Asks asked) old new = (m : M) × (told : Heard) × (n : M) × (old ≡ Some (hearing m (Some told))) × w.GoesOn m told asked n × (new ≡ Some (hearing n None))
+  MovesTo (Asks asked) old new = (m : M) × (told : Heard) × (n : M) × (old ≡ Some (hearing m (Some told))) × w.StepsOn m told asked n × (new ≡ Some (hearing n None))
   MovesTo (Learns asked told) old new = (m : M) × (old ≡ Some (hearing m None)) × (w.asked m ≡ asked) × Fits asked told × (new ≡ Some (hearing m (Some told)))
   MovesTo (Fails sid call) old new = (m : M) × (old ≡ Some (hearing m None)) × (w.asked m ≡ Dm sid call) × (new ≡ Some (hearing m (Some Nothing)))
   MovesTo Misses old new = (r : Living M) × (old ≡ Some r) × (new ≡ Some (hearing r.machine (Some Nothing)))

@@ -9,7 +9,7 @@ ghost use Rattle.deeds.specs.Faults.{HeardApart, AddsHeard, AddsNone, AddsBoth};
 ghost use Rattle.deeds.specs.Given.{GivenExactly};
 ghost use Rattle.deeds.specs.Leads.{LeadsOn, LeadsThrough, ServedOnce};
 ghost use Rattle.deeds.specs.Lives.{Move, MovesAreDeeds};
-ghost use Rattle.deeds.specs.Standing.{Knowing, StandsExactly};
+ghost use Rattle.deeds.specs.KnownByMoves.{Knowing, StandsExactly};
 
 use crate::machines::Machine;
 

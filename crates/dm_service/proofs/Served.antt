@@ -30,7 +30,7 @@ use Rattle.access_park.specs.declared.access.Access.{Access}
 use Rattle.access_park.proofs.Counting.{counts_waiting}
 use Rattle.dm_service.specs.Tables.{Tables, waiting, is_open, pending_as, flags_in, flags_or_none, ledger_of, seen, open_among, awaited_in, AreKept}
 use Rattle.dm_service.specs.Services.{asks_sessions, asks_tables, any_superblock, session_refusals, with_sessions, own_refusal, whole_refusal}
-use Rattle.dm_service.specs.Services.{AreBoth, IsServed, IsTold, Judges, JudgesOrLacks, is_due, entries_for}
+use Rattle.dm_service.specs.Services.{AreBoth, IsServedByTables, IsTold, Judges, JudgesOrLacks, is_due, entries_for}
 use Rattle.dm_service.proofs.Refusing.{all_pass, one_stops, alone}
 use Rattle.dm_service.proofs.Ledgers.{shown, still_ordered, open_as}
 use Rattle.dm_service.proofs.Awaiting.{closed, opened, within_top}
@@ -93,7 +93,7 @@ module _ (t u : Tables) (n : ℕ) (kept : AreKept t n) (sid : Sid) (call : DmCal
   unchanged : u.sessions ≡ t.sessions → u ≡ t
   unchanged sessions i = record { sessions = sessions i; tokens = tokens i; rights = rights i; park = park i }
 
-  pub served_by : {E : Type 0} (result : Result (DmReply × DmReply) E) → IsTold t.sessions sid call (whole_refusal t.sessions sid call) result u.sessions → IsServed t sid call result u × AreKept u n × (awaited_in u ≡ awaited_in t)
+  pub served_by : {E : Type 0} (result : Result (DmReply × DmReply) E) → IsTold t.sessions sid call (whole_refusal t.sessions sid call) result u.sessions → IsServedByTables t sid call result u × AreKept u n × (awaited_in u ≡ awaited_in t)
   served_by (Ok r) told =
       let is = judged_by t sid call asks in
       let after = left_by (dm_judged any_superblock (seen t) sid call) refl (subst (λ why. u.sessions ≡ (dm_state_where why any_superblock (with_sessions t.sessions) sid call).sessions) is told.left) in (
@@ -192,7 +192,7 @@ judged_first None None c why is = absurd cc
 
 -- so it was served
 pub event_served : {E : Type 0} (t u : Tables) (sid : Sid) (body : List ℕ) (token : Token) → token ≡ next_token (ledger_of t) → dm_judged any_superblock (seen t) sid (CreateUserEvent body) ≡ None
-    → noted (seen u) ≡ dm_state_where None any_superblock (seen t) sid (CreateUserEvent body) → IsServed {E = E} t sid (CreateUserEvent body) (Ok (reply.Token token, reply.Token token)) u
+    → noted (seen u) ≡ dm_state_where None any_superblock (seen t) sid (CreateUserEvent body) → IsServedByTables {E = E} t sid (CreateUserEvent body) (Ok (reply.Token token, reply.Token token)) u
 event_served t u sid body token is none left =
     let told : reply.Token token ≡ dm_reply_to any_superblock (seen t) sid (CreateUserEvent body) = (λ i. reply.Token (is i)) ∙ (λ i. dm_reply_where (sym none i) any_superblock (seen t) sid (CreateUserEvent body)) in
     record { replies = (told, told); left = left ∙ (λ i. dm_state_where (sym none i) any_superblock (seen t) sid (CreateUserEvent body)); memory = tt; err = tt }

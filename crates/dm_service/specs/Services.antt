@@ -91,7 +91,7 @@ done_or (Err why) = reply.Refused why
 
 -- A call was served: it was answered, and made its change, as in a store with nothing but these tables. For want of memory, where nothing refuses, the
 -- tables are left as they were.
-pub record IsServed {E : Type 0} (t : Tables) (sid : Sid) (call : DmCall) (result : Result (DmReply × DmReply) E) (u : Tables) : Type 0 where
+pub record IsServedByTables {E : Type 0} (t : Tables) (sid : Sid) (call : DmCall) (result : Result (DmReply × DmReply) E) (u : Tables) : Type 0 where
   pub replies : IfOk result (λ r. AreBoth (dm_reply_to any_superblock (seen t) sid call) r)
   pub left : OnOk result (noted (seen u) ≡ dm_state_after any_superblock (seen t) sid call)
   pub memory : OnErr result (dm_judged any_superblock (seen t) sid call ≡ None)

@@ -9,7 +9,7 @@ ghost use Rattle.plain_model.specs.State.{noted};
 ghost use Rattle.plain_model.specs.Services.{bad_own_token, dm_state_where};
 ghost use Rattle.dm_service.specs.Tables.{awaited_in, seen};
 ghost use Rattle.dm_service.specs.Handing.{HandsOut};
-ghost use Rattle.dm_service.specs.Services.{any_superblock, asks_tables, entries_for, is_due, IsServed, Judges, JudgesOrLacks};
+ghost use Rattle.dm_service.specs.Services.{any_superblock, asks_tables, entries_for, is_due, IsServedByTables, Judges, JudgesOrLacks};
 
 use crate::calls::serve;
 use crate::messages;
@@ -29,7 +29,7 @@ impl DmService {
         call: &DmCall,
     ) -> Result<(DmReply, DmReply), AllocError>
         requires { asks_tables call.now ≡ true }
-        ensures served { IsServed self.old sid call.now result self.new }
+        ensures served { IsServedByTables self.old sid call.now result self.new }
         ensures packed { IfOk result (λ r. HandsOut self.old.sessions sid call.now r.0) }
         ensures responds { is_due self.old.sessions sid call.now ≡ true → IsOk result }
         ensures room { awaited_in self.new + 1 ≤ awaited_in self.old + entries_for self.old.sessions sid call.now }
@@ -96,7 +96,7 @@ impl DmService {
 
     /// Makes an event of the session's own, with the reply twice.
     fn make_event(&mut self, sid: Sid, body: &Bytes) -> Result<(DmReply, DmReply), AllocError>
-        ensures served { IsServed self.old sid (CreateUserEvent body.now) result self.new }
+        ensures served { IsServedByTables self.old sid (CreateUserEvent body.now) result self.new }
         ensures room { awaited_in self.new ≤ awaited_in self.old + 1 }
     {
         if let Err(why) = self.sessions.judge_event(sid, body) {

@@ -6,7 +6,7 @@ use Rattle.meta_store.specs.Images.{IsCorruptAt}
 use Rattle.hsm_cli.specs.declared.causes.Cause.{Cause}
 use Rattle.hsm_cli.specs.declared.causes.Cause.TheVariants.{ScriptRefused, WordsRefused, NotStore, Corrupt, ReadFault, WriteFault, DiskFault}
 use Rattle.hsm_cli.specs.declared.causes.Cause.TheVariants.{HostFault, NoMemory}
-use Rattle.hsm_cli.specs.Told.{SinkTold}
+use Rattle.hsm_cli.specs.RunObjects.{SinkTold}
 use Rattle.hsm_cli.specs.Endings.{cause_in, WritingEnds, ShowEnds, CountingEnds}
 
 -- where a text was to be written

@@ -13,7 +13,7 @@ use Rattle.hsm_cli.specs.declared.causes.Cause.TheVariants.{HostFault, NoMemory}
 use Rattle.hsm_replay.specs.Running.{IsAllDurable}
 use Rattle.hsm_cli.specs.Clauses.{IsWhole, RanToItsEnd}
 use Rattle.hsm_cli.specs.Endings.{cause_in, first_of, ScriptEnds}
-use Rattle.hsm_cli.specs.Told.{SourceTold}
+use Rattle.hsm_cli.specs.RunObjects.{SourceTold}
 
 -- ---- what a run to the end leaves
 

@@ -17,7 +17,7 @@ use Rattle.hsm_cli.specs.declared.outcomes.Outcome.{Outcome}
 use Rattle.hsm_cli.specs.Statuses.{status_of, place_of}
 use Rattle.hsm_cli.specs.Openings.{opened_in, base_of}
 use Rattle.hsm_cli.specs.Sources.{script_bytes}
-use Rattle.hsm_cli.specs.Told.{SourceTold, SinkTold, HostTold}
+use Rattle.hsm_cli.specs.RunObjects.{SourceTold, SinkTold, HostTold}
 use Rattle.hsm_cli.specs.Endings.{RunEnds}
 use Rattle.hsm_cli.specs.Clauses.{Why, GivesScript, NothingFails, HasFailed, HasBegun, CanEnd, FindsNothing, TellsStore, Lacks, StatusClause}
 

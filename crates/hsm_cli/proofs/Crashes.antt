@@ -16,7 +16,7 @@ use Rattle.file_store.specs.Stores.{Store, IsRecovered, IsDurable}
 use Rattle.hsm_core.specs.Crashes.{IsPrefix}
 use Rattle.hosts.specs.Hosts.{IsHanded}
 use Rattle.hsm_cli.specs.Statuses.{cause_of_refusal, cause_of_host}
-use Rattle.hsm_cli.specs.Told.{SourceTold, SinkTold}
+use Rattle.hsm_cli.specs.RunObjects.{SourceTold, SinkTold}
 use Rattle.hsm_cli.specs.declared.causes.Cause.{Cause}
 use Rattle.hsm_cli.specs.declared.causes.Cause.TheVariants.{WordsRefused, HostFault, NoMemory}
 use Rattle.hosts.specs.declared.outside.HostRefusal.{HostRefusal}

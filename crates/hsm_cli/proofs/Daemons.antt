@@ -18,14 +18,14 @@ use Rattle.hsm_core.proofs.Packing.{packed_first}
 use Rattle.hsm_policy.specs.Settings.{Numbers, standard}
 use Rattle.deeds.specs.Deeds.{Deed, entries_of}
 use Rattle.deeds.specs.Leads as leading
-use Rattle.deed_laws.specs.Coming.{ServedMakesAnew, ServedTakesOver}
+use Rattle.deed_laws.specs.DaemonSessions.{ServedMakesAnew, ServedTakesOver}
 use Rattle.marked_history.specs.Marks.{Mark}
 use Rattle.marked_history.specs.Marks as marking
 use Rattle.marked_history.specs.Served.{Shown, nothing_shown, learned, ServedFrom, Served}
 use Rattle.marked_history.specs.Freeing.{PunchFrees}
 use Rattle.marked_history.specs.Tokens.{ServedKeepsAll}
 use Rattle.marked_history.proofs.Lists.{none_there}
-use Rattle.hsm_system.specs.Events.{GoesOn}
+use Rattle.hsm_system.specs.Events.{HasGrown}
 use Rattle.hsm_system.specs.Lives.{recalls, migrates}
 use Rattle.hsm_cli.specs.Daemons.{IsWellServed, IsWellServedOver, ServedIsWell, KeepsThroughout, KeepsThroughoutOver, ServedKeepsThroughout}
 
@@ -51,7 +51,7 @@ well_served laws s base h history run deeds same served =
     record { anew = laws.anew standard s base h deeds served is_run; over = laws.over standard deeds served; frees = laws.frees s base h (entries_of deeds) is_run }
 
 -- on a store that was just opened
-pub run_is_well : {D : Type 0} → Laws → (g : disk.Ghosts D) (old new : HsmStore D) → GoesOn g old new → IsKept g new → ServedIsWell (Some old.opened) new.history
+pub run_is_well : {D : Type 0} → Laws → (g : disk.Ghosts D) (old new : HsmStore D) → HasGrown g old new → IsKept g new → ServedIsWell (Some old.opened) new.history
 run_is_well {D = D} laws g old new goes kept deeds same served =
     subst (λ (o : Store D). IsWellServedOver (Some o) deeds) goes.opened
     (well_served laws (superblock_of new.opened) new.opened.meta.number new.opened.held new.history
@@ -80,7 +80,7 @@ module _ (law : Keeping) (s : Superblock) (base : ℕ) (h : Held) where
       (run_first (marking.entries_of first) (marking.entries_of rest) (subst (λ (es : List Entry). IsRunSeen ⊥ s base h es) both run))
       (packed_first s (just_opened base h) (marking.entries_of first) (marking.entries_of rest) (subst (λ (es : List Entry). ArePacked s (just_opened base h) es) both packed))
 
-pub run_keeps : {D : Type 0} → Keeping → (g : disk.Ghosts D) (old new : HsmStore D) → GoesOn g old new → IsKept g new → ServedKeepsThroughout (Some old.opened) new.history
+pub run_keeps : {D : Type 0} → Keeping → (g : disk.Ghosts D) (old new : HsmStore D) → HasGrown g old new → IsKept g new → ServedKeepsThroughout (Some old.opened) new.history
 run_keeps {D = D} law g old new goes kept marks same served =
     subst (λ (o : Store D). KeepsThroughoutOver (Some o) marks) goes.opened
     (keeps_throughout law (superblock_of new.opened) new.opened.meta.number new.opened.held new.history

@@ -19,7 +19,7 @@ use Rattle.hosts.specs.Hosts.{AreHanded}
 use Rattle.hosts.specs.declared.outside.HostRefusal.{HostRefusal}
 use Rattle.hosts.specs.declared.outside.HostRefusal.TheVariants.{Failed}
 use Rattle.hosts.specs.declared.outside.HostRefusal.TheVariants as host
-use Rattle.hsm_replay.specs.GoingOn.{MayGoOnBehind}
+use Rattle.hsm_replay.specs.ReadyCallers.{MayGoOnBehind}
 use Rattle.hsm_cli.specs.declared.causes.Cause.{Cause}
 use Rattle.hsm_cli.specs.declared.causes.Cause.TheVariants.{ScriptRefused, WordsRefused, NotStore, Corrupt, ReadFault, WriteFault, DiskFault}
 use Rattle.hsm_cli.specs.declared.causes.Cause.TheVariants.{HostFault, NoMemory}
@@ -30,7 +30,7 @@ use Rattle.hsm_cli.specs.Endings.{IsBeforeReading, ScriptEnds, WritingEnds, caus
 use Rattle.hsm_cli.specs.Openings.{replay_store}
 use Rattle.hsm_cli.specs.Outcomes.{ended_with}
 use Rattle.hsm_cli.specs.Statuses.{cause_of_host, cause_of_refusal}
-use Rattle.hsm_cli.specs.Told.{SinkTold, SourceTold}
+use Rattle.hsm_cli.specs.RunObjects.{SinkTold, SourceTold}
 use Rattle.hsm_cli.proofs.Daemons.{none_well}
 use Rattle.hsm_cli.proofs.Doing.{idle_done, none_done, wanting}
 use Rattle.hsm_cli.proofs.Drives.{handed_since}

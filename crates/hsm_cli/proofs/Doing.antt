@@ -21,7 +21,7 @@ use Rattle.hsm_system.specs.declared.stops.Stop.{Stop}
 use Rattle.hsm_system.specs.declared.stops.Stop.TheVariants as stop
 use Rattle.marked_history.specs.Quiet.{is_quiet}
 use Rattle.hsm_replay.specs.Deeds.{ByDeeds, IsDoneBy, IsSo, IsStopOf, IsStoppedBy, RunsBy, counts_of, given_now}
-use Rattle.hsm_replay.specs.GoingOn.{MayGoOn, may_go_on_by}
+use Rattle.hsm_replay.specs.ReadyCallers.{MayGoOn, may_go_on_by}
 use Rattle.hsm_replay.specs.Parts.{IsLinePart}
 use Rattle.hsm_replay.specs.Running.{commit_line}
 use Rattle.hsm_replay.specs.Stopped.{Broken, Ending, IsLineCut, Lost, Unmade}
@@ -36,7 +36,7 @@ use Rattle.hsm_cli.specs.Deeds.{AreCutIn, AreDone, AreFirst, AreOfLines, HasDone
 use Rattle.hsm_cli.specs.Endings.{WritingEnds, cause_in, first_of}
 use Rattle.hsm_cli.specs.Follows.{lines_run}
 use Rattle.hsm_cli.specs.Runs.{IsReady}
-use Rattle.hsm_cli.specs.Told.{SinkTold}
+use Rattle.hsm_cli.specs.RunObjects.{SinkTold}
 
 -- ---- lines
 

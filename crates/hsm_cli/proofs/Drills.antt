@@ -24,7 +24,7 @@ use Rattle.hsm_cli.specs.declared.causes.Cause.TheVariants.{ScriptRefused, Words
 use Rattle.hsm_cli.specs.declared.causes.Cause.TheVariants.{HostFault, NoMemory}
 use Rattle.hsm_cli.specs.declared.outcomes.Outcome.{Outcome}
 use Rattle.hsm_cli.specs.Statuses.{status_of, place_of}
-use Rattle.hsm_cli.specs.Told.{SourceTold, SinkTold, HostTold}
+use Rattle.hsm_cli.specs.RunObjects.{SourceTold, SinkTold, HostTold}
 use Rattle.hsm_cli.specs.Daemons.{KeepsThroughoutOver, ServedKeepsThroughout}
 use Rattle.hsm_cli.specs.Follows.{RunsBy, FollowsFirst, IsRunOf, DrillsAll, DrillsFirst, SettlesOn}
 use Rattle.hsm_cli.specs.Sealing.{TellsOf, IsRightInMemory}

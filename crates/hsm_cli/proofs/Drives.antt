@@ -14,7 +14,7 @@ use Rattle.hsm_cli.specs.declared.causes.Cause.TheVariants.{ScriptRefused, Words
 use Rattle.hsm_cli.specs.declared.causes.Cause.TheVariants.{HostFault, NoMemory}
 use Rattle.hosts.specs.Hosts.{AreHanded, HoldsNothing, HoldsOthers, HoldsAll, StoresAll}
 use Rattle.hsm_cli.specs.Sealing.{TalliesSince}
-use Rattle.hsm_cli.specs.Told.{SourceTold, SinkTold, HostTold}
+use Rattle.hsm_cli.specs.RunObjects.{SourceTold, SinkTold, HostTold}
 use Rattle.hsm_cli.specs.Endings.{RunEnds, HandingEnds, IsBeforeReading}
 use Rattle.hsm_cli.specs.Clauses.{Why, HasFailed, GivesBack, HandsOut, HandsDrives}
 

@@ -7,7 +7,7 @@ use Rattle.hsm_cli.specs.declared.causes.Cause.TheVariants.{ScriptRefused, Words
 use Rattle.hsm_cli.specs.declared.causes.Cause.TheVariants.{HostFault, NoMemory}
 use Rattle.marked_history.specs.Marks.{Mark}
 use Rattle.hsm_cli.specs.Follows.{RunsBy, FollowsFirst, IsOfScript, RunsAll, RunsFirst, lines_run}
-use Rattle.hsm_cli.specs.Told.{SourceTold, SinkTold}
+use Rattle.hsm_cli.specs.RunObjects.{SourceTold, SinkTold}
 use Rattle.hsm_cli.specs.Clauses.{HasRun, IsBeforeRun}
 use Rattle.hsm_cli.specs.Endings.{cause_in, WritingEnds, first_of}
 

@@ -22,7 +22,7 @@ use Rattle.marked_history.specs.Caused.{Caused}
 use Rattle.deeds.specs.Deeds.{Deed, entries_of}
 use Rattle.deeds.specs.Leads.{Served}
 use Rattle.deed_laws.specs.Caused.{ServedIsCaused}
-use Rattle.hsm_system.specs.Events.{GoesOn}
+use Rattle.hsm_system.specs.Events.{HasGrown}
 use Rattle.hsm_system.specs.Lives.{recalls, migrates}
 use Rattle.hsm_replay.specs.Drives.{HaveGrown}
 use Rattle.hsm_replay.specs.Faults.{faults_in, TellsFault, IsTrue, AreTrue}
@@ -85,7 +85,7 @@ made done = (done.deeds, done.entries, done.served)
 module _ {D : Type 0} (g : disk.Ghosts D) where
   -- what the history of a run on an opened store says of faults
   pub caused_served : ((limits : Numbers) (s : Superblock) (base : ℕ) (opening : Held) (deeds : List Deed) → ServedIsCaused limits s base opening deeds)
-      → (old new : HsmStore D) → GoesOn g old new → IsMade new.history → IsKept g new → IsCausedOver (Some old.opened) new.history
+      → (old new : HsmStore D) → HasGrown g old new → IsMade new.history → IsKept g new → IsCausedOver (Some old.opened) new.history
   caused_served law old new goes (deeds, same, served) kept =
       let s : Superblock = superblock_of new.opened in
       let first : State = just_opened new.opened.meta.number new.opened.held in

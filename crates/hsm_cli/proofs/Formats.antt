@@ -10,7 +10,7 @@ use Rattle.hsm_cli.specs.declared.causes.Cause.TheVariants.{ScriptRefused, Words
 use Rattle.hsm_cli.specs.declared.causes.Cause.TheVariants.{HostFault, NoMemory}
 use Rattle.hsm_cli.specs.declared.outcomes.Outcome.{Outcome}
 use Rattle.hsm_cli.specs.Statuses.{status_of, place_of}
-use Rattle.hsm_cli.specs.Told.{SourceTold, SinkTold, HostTold}
+use Rattle.hsm_cli.specs.RunObjects.{SourceTold, SinkTold, HostTold}
 use Rattle.hsm_cli.specs.Endings.{FormatEnds}
 use Rattle.hsm_cli.specs.Clauses.{HasFailed, Why, CanEnd, StatusClause}
 

@@ -23,7 +23,7 @@ use Rattle.hosts.specs.declared.outside.HostRefusal.TheVariants as handing
 use Rattle.hsm_cli.specs.Outcomes.{ended_with}
 use Rattle.hsm_cli.specs.Statuses.{cause_of_host, cause_of_classes}
 use Rattle.hsm_cli.specs.Texts.{TakesText}
-use Rattle.hsm_cli.specs.Told.{SourceTold, SinkTold, HostTold, FailsOnce}
+use Rattle.hsm_cli.specs.RunObjects.{SourceTold, SinkTold, HostTold, FailsOnce}
 use Rattle.hsm_cli.specs.Endings.{cause_in, WritingEnds, first_of}
 use Rattle.hsm_cli.specs.Clauses.{HasRun, ComesBackRead, ReadsQuietly, WritesQuietly, NeverFailed, HasDriveFailed, CountsQuietly, FaultsClause}
 

@@ -5,7 +5,7 @@ use Rattle.disk_model.specs.Calls.{RoseByOne}
 use Rattle.hsm_cli.specs.declared.causes.Cause.{Cause}
 use Rattle.hsm_cli.specs.declared.causes.Cause.TheVariants.{ScriptRefused, WordsRefused, NotStore, Corrupt, ReadFault, WriteFault, DiskFault}
 use Rattle.hsm_cli.specs.declared.causes.Cause.TheVariants.{HostFault, NoMemory}
-use Rattle.hsm_cli.specs.Told.{SourceTold, SinkTold}
+use Rattle.hsm_cli.specs.RunObjects.{SourceTold, SinkTold}
 use Rattle.hsm_cli.specs.Endings.{RunEnds}
 use Rattle.hsm_cli.specs.Clauses.{HasFailed, HasBegun}
 

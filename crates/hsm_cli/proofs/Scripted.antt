@@ -28,7 +28,7 @@ use Rattle.hsm_cli.specs.Follows.{SettlesSince, lines_run}
 use Rattle.hsm_cli.specs.Openings.{replay_store}
 use Rattle.hsm_cli.specs.Sealing.{TellsOf}
 use Rattle.hsm_cli.specs.Sources.{script_bytes}
-use Rattle.hsm_cli.specs.Told.{SourceTold}
+use Rattle.hsm_cli.specs.RunObjects.{SourceTold}
 
 -- ---- no line was run
 

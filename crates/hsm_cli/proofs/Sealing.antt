@@ -23,7 +23,7 @@ use Rattle.script_text.specs.declared.lines.Line.{Line}
 use Rattle.hsm_cli.specs.Clauses.{HasRun}
 use Rattle.hsm_cli.specs.Endings.{IsBeforeReading}
 use Rattle.hsm_cli.specs.Sealing.{IsUnknown, NeedsUnknown, LosesNothing, TellsOf, IsRightInMemory, IsRightInFolder, TalliesSince}
-use Rattle.hsm_cli.specs.Told.{SourceTold}
+use Rattle.hsm_cli.specs.RunObjects.{SourceTold}
 use Rattle.marked_history.proofs.Lists.{all_first}
 use Rattle.hsm_replay.proofs.PassMarks.{all_passed_as}
 use Rattle.hsm_cli.proofs.Scripted.{ran_with}

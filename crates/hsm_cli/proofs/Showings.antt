@@ -28,7 +28,7 @@ use Rattle.hosts.specs.declared.outside.HostRefusal.TheVariants as handing
 use Rattle.hsm_cli.specs.declared.outcomes.Outcome.{Outcome}
 use Rattle.hsm_cli.specs.Statuses.{status_of, place_of, cause_of_refusal, cause_of_host, cause_of_classes}
 use Rattle.hsm_cli.specs.Texts.{TakesText, IsShown, shown_volumes, AreCounted, GivesVolume}
-use Rattle.hsm_cli.specs.Told.{SourceTold, SinkTold, HostTold}
+use Rattle.hsm_cli.specs.RunObjects.{SourceTold, SinkTold, HostTold}
 use Rattle.hosts.specs.Hosts.{IsHanded, AreHanded, StoresNothing, StoresOthers}
 use Rattle.hsm_cli.specs.Endings.{cause_in, WritingEnds, ShowEnds, CountingEnds}
 use Rattle.hsm_cli.specs.Clauses.{Why, HasFailed, HasDriveFailed, FindsNothing, TellsStore, HoldsStore, WritesText, ReadsStore, NamesDisk, CanEnd}

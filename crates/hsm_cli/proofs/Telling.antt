@@ -6,7 +6,7 @@ use Rattle.disk_model.specs.Calls.{Rose}
 use Rattle.hsm_cli.specs.declared.causes.Cause.{Cause}
 use Rattle.hsm_cli.specs.declared.causes.Cause.TheVariants.{ScriptRefused, WordsRefused, NotStore, Corrupt, ReadFault, WriteFault, DiskFault}
 use Rattle.hsm_cli.specs.declared.causes.Cause.TheVariants.{HostFault, NoMemory}
-use Rattle.hsm_cli.specs.Told.{SourceTold, SinkTold}
+use Rattle.hsm_cli.specs.RunObjects.{SourceTold, SinkTold}
 use Rattle.hsm_cli.specs.Endings.{cause_in, ScriptEnds, WritingEnds, RunEnds, first_of}
 
 -- what holds of the cause that is told

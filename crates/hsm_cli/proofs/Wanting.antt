@@ -15,7 +15,7 @@ use Rattle.hsm_cli.specs.Outcomes.{ended_with}
 use Rattle.hsm_cli.specs.Sources.{GivesFirst}
 use Rattle.hosts.specs.Hosts.{HoldsAll, StoresAll}
 use Rattle.hsm_cli.specs.Texts.{IsUnwritten}
-use Rattle.hsm_cli.specs.Told.{SourceTold, SinkTold, HostTold, host_told}
+use Rattle.hsm_cli.specs.RunObjects.{SourceTold, SinkTold, HostTold, host_told}
 use Rattle.hsm_cli.specs.Clauses.{ScriptClause, ReadingClause, MediaClause, TellsFaults, CrashClause, FormatClause, HostClause, DrivesClause}
 use Rattle.hsm_cli.specs.Clauses.{OutputClause, TakesTranscript, LegalityClause, PlainClause, StatusClause, KeepsPromises}
 use Rattle.hsm_cli.proofs.Deeds.{deeds_wanting}

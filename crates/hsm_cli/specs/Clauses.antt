@@ -48,7 +48,7 @@ use Rattle.hsm_cli.specs.Follows.{SettlesOn, RunsAll, RunsFirst, DrillsAll, Dril
 use Rattle.hosts.specs.Hosts.{IsHanded, AreHanded, HoldsNothing, HoldsOthers, HoldsAll, StoresNothing, StoresOthers, StoresAll}
 use Rattle.hsm_cli.specs.Sealing.{IsRightInMemory, IsRightInFolder}
 use Rattle.hsm_cli.specs.Texts.{IsUnwritten, TakesText, IsShown, AreUntold, AreCounted, shown_drives, shown_volumes, drill_text}
-use Rattle.hsm_cli.specs.Told.{SourceTold, SinkTold, HostTold, host_told, FailsOnce}
+use Rattle.hsm_cli.specs.RunObjects.{SourceTold, SinkTold, HostTold, host_told, FailsOnce}
 
 -- ---- where the disk tells
 

@@ -9,7 +9,7 @@ use Rattle.file_store.specs.Stores.{Store}
 use Rattle.deeds.specs.Deeds.{Deed, entries_of}
 use Rattle.deeds.specs.Leads.{Served}
 use Rattle.hsm_system.specs.Lives.{recalls, migrates}
-use Rattle.deed_laws.specs.Coming.{MakesAnew, TakesOver}
+use Rattle.deed_laws.specs.DaemonSessions.{MakesAnew, TakesOver}
 use Rattle.marked_history.specs.Freeing.{PunchesFree}
 use Rattle.marked_history.specs.Marks.{Mark}
 use Rattle.marked_history.specs.Marks as marking

@@ -20,7 +20,7 @@ use Rattle.hosts.specs.Hosts.{AreHanded}
 use Rattle.hsm_system.specs.Lives.{migrates, recalls}
 use Rattle.marked_history.specs.Quiet.{is_quiet}
 use Rattle.hsm_replay.specs.Deeds.{AreSo, DrivesGo, counts_of}
-use Rattle.hsm_replay.specs.GoingOn.{MayGoOnBehind}
+use Rattle.hsm_replay.specs.ReadyCallers.{MayGoOnBehind}
 use Rattle.hsm_replay.specs.Parts.{Follows}
 use Rattle.hsm_replay.specs.Stopped.{Broken, Ending, StopsIn}
 use Rattle.hsm_cli.specs.declared.causes.Cause.{Cause}
@@ -30,7 +30,7 @@ use Rattle.hsm_cli.specs.Daemons.{IsWellServedOver}
 use Rattle.hsm_cli.specs.Follows.{lines_run}
 use Rattle.hsm_cli.specs.Openings.{base_of, held_at, opened_in, superblock_at}
 use Rattle.hsm_cli.specs.Sources.{script_bytes}
-use Rattle.hsm_cli.specs.Told.{SourceTold}
+use Rattle.hsm_cli.specs.RunObjects.{SourceTold}
 
 -- ---- lines
 

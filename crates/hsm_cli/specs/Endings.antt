@@ -8,7 +8,7 @@ use Rattle.script_text.specs.Scripts.{IsFirstBad}
 use Rattle.hsm_cli.specs.declared.causes.Cause.{Cause}
 use Rattle.hsm_cli.specs.declared.causes.Cause.TheVariants.{ScriptRefused, NotStore, Corrupt, ReadFault, WriteFault, DiskFault, HostFault, NoMemory}
 use Rattle.hsm_cli.specs.Sources.{script_bytes}
-use Rattle.hsm_cli.specs.Told.{SourceTold, SinkTold, HostTold}
+use Rattle.hsm_cli.specs.RunObjects.{SourceTold, SinkTold, HostTold}
 
 -- what went wrong, if anything did
 abbrev pub cause_in : {T : Type 0} → Result T Cause → Option Cause

@@ -5,7 +5,7 @@ pub mod Outcomes
 pub mod Daemons
 pub mod Follows
 pub mod Sealing
-pub mod Told
+pub mod RunObjects
 pub mod Texts
 pub mod Deeds
 pub mod Clauses

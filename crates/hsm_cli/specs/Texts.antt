@@ -17,7 +17,7 @@ use Rattle.drill_script.specs.Summary.{summary_line}
 use Rattle.hsm_cli.specs.declared.causes.Cause.{Cause}
 use Rattle.hsm_cli.specs.declared.causes.Cause.TheVariants.{WriteFault}
 use Rattle.hsm_cli.specs.Openings.{replay_store}
-use Rattle.hsm_cli.specs.Told.{SinkTold}
+use Rattle.hsm_cli.specs.RunObjects.{SinkTold}
 
 -- nothing was asked of the sink
 pub record IsUnwritten (sink : SinkTold) : Type 0 where

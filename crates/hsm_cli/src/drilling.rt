@@ -13,7 +13,7 @@ ghost use Rattle.drill_script.specs.Summary.{summary_line};
 ghost use Rattle.hosts.specs.Hosts.{AreHanded};
 ghost use Rattle.hsm_replay.specs.Drives.{HaveGrown};
 ghost use Rattle.hsm_replay.specs.Faults.{faults_in, AreTrue};
-ghost use Rattle.hsm_system.specs.Events.{GoesOn};
+ghost use Rattle.hsm_system.specs.Events.{HasGrown};
 ghost use Rattle.hsm_cli.specs.Openings.{opened_in, replay_store};
 ghost use Rattle.hsm_cli.specs.Outcomes.{ended_with};
 ghost use Rattle.hsm_cli.specs.Follows.{RunsBy, FollowsFirst, IsRunOf, SettlesOn};
@@ -21,7 +21,7 @@ ghost use Rattle.hsm_cli.specs.Daemons.{KeepsThroughoutOver, ServedIsWell, Serve
 ghost use Rattle.hsm_cli.specs.Deeds.{AreDone, AreThese, DrivesInMemory, HasDone, HaveGone, MayGoOnOver, RunHasDone, without_objects};
 ghost use Rattle.hsm_cli.specs.Sealing.{TellsOf, IsRightInMemory};
 ghost use Rattle.hsm_cli.specs.Texts.{TakesText, HasLeft, drill_text};
-ghost use Rattle.hsm_cli.specs.Told.{FailsOnce, sink_told};
+ghost use Rattle.hsm_cli.specs.RunObjects.{FailsOnce, sink_told};
 ghost use Rattle.hsm_cli.specs.Endings.{cause_in, WritingEnds, LinesEnd};
 ghost use Rattle.hsm_cli.specs.Clauses.{HasDrilled, IsPackedOver, IsGoodOver, IsPlainOver, IsCausedOver, NoneFailed};
 ghost use Rattle.hsm_cli.specs.Runs.{IsOpenedAnew, IsReady};
@@ -171,7 +171,7 @@ fn run_all<D: Disk, M: Drive>(
     requires ready { IsReady replay.old }
     requires limits { replay.old.system.limits ≡ standard }
     ensures drives { HaveGrown M.Drive replay.old.drives replay.new.drives }
-    ensures goes_on { GoesOn D.Disk replay.old.system.store replay.new.system.store }
+    ensures goes_on { HasGrown D.Disk replay.old.system.store replay.new.system.store }
     ensures all { OnOk result (IsRunOf (RunsBy (SettlesOn (Some replay.old.system.store.opened)) script) (TellsOf M.Drive replay.old.drives replay.new.drives) replay.new.system.store.history) }
     ensures first { IsRunOf (FollowsFirst (SettlesOn (Some replay.old.system.store.opened)) script) (TellsOf M.Drive replay.old.drives replay.new.drives) replay.new.system.store.history }
     ensures deeds { HasDone standard (AreDone (MayGoOnOver (Some replay.old.system.store.opened)) (AreThese script) (cause_in result)) (λ deeds. HaveGone M.Drive replay.old.drives deeds replay.new.drives) replay.new.system.store.history }

@@ -4,7 +4,7 @@ ghost use Rattle.std.specs.List.{AllByRecursion};
 ghost use Rattle.script_text.specs.Lines.{IsLine};
 ghost use Rattle.hsm_replay.specs.Deeds.{ByDeeds};
 ghost use Rattle.hsm_replay.specs.Drives.{HaveGrown};
-ghost use Rattle.hsm_replay.specs.GoingOn.{MayGoOn};
+ghost use Rattle.hsm_replay.specs.ReadyCallers.{MayGoOn};
 ghost use Rattle.hsm_system.specs.Events.{Runs};
 ghost use Rattle.hsm_replay.specs.Running.{IsAllDurable};
 ghost use Rattle.hsm_cli.specs.Deeds.{AreCutIn, AreOfLines};

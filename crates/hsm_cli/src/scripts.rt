@@ -12,7 +12,7 @@ ghost use Rattle.script_text.specs.Scripts.{IsScript};
 ghost use Rattle.hsm_policy.specs.Settings.{standard};
 ghost use Rattle.hsm_replay.specs.Drives.{HaveGrown};
 ghost use Rattle.hsm_replay.specs.Faults.{faults_in, AreTrue};
-ghost use Rattle.hsm_system.specs.Events.{GoesOn};
+ghost use Rattle.hsm_system.specs.Events.{HasGrown};
 ghost use Rattle.hsm_replay.specs.Running.{IsAllDurable};
 ghost use Rattle.hsm_cli.specs.Sealing.{TellsOf};
 ghost use Rattle.hsm_cli.specs.Sources.{script_bytes, GivesFirst};
@@ -22,7 +22,7 @@ ghost use Rattle.hsm_cli.specs.Deeds.{AreDone, AreOfScript, HasDone, HaveGone, M
 ghost use Rattle.hsm_cli.specs.Clauses.{HasRun, HasRead, IsRunOver, IsOrderlyOver, IsPackedOver, IsGoodOver, IsPlainOver, IsCausedOver, IsWhole, IsBeforeRun};
 ghost use Rattle.hsm_cli.specs.Clauses.{RanToItsEnd, ReadsQuietly, WritesQuietly};
 ghost use Rattle.hsm_cli.specs.Endings.{cause_in, IsBeforeReading, ScriptEnds, WritingEnds, RunEnds, first_of};
-ghost use Rattle.hsm_cli.specs.Told.{FailsOnce, source_told, sink_told};
+ghost use Rattle.hsm_cli.specs.RunObjects.{FailsOnce, source_told, sink_told};
 ghost use Rattle.hsm_cli.specs.Runs.{IsOpenedAnew, IsReady};
 
 use crate::causes::Cause;
@@ -148,7 +148,7 @@ fn run_with<D: Disk, M: Drive, I: Source>(
     requires anew { IsOpenedAnew hsm }
     requires count { IfOk drives (λ ds. length ds.items ≡ standard.drives) }
     requires ready { IfErr drives IsBeforeReading }
-    ensures goes_on { GoesOn D.Disk hsm result.hsm }
+    ensures goes_on { HasGrown D.Disk hsm result.hsm }
     ensures ran { HasRun (SettlesOn (Some hsm.opened)) (λ marks. IfOk drives (λ ds. TellsOf M.Drive ds.items result.drives.items marks)) commits (source_told I.left I.fault_count source.old source.new) (cause_in result.ended) result.hsm.history }
     ensures deeds { HasDone standard (AreDone (MayGoOnOver (Some hsm.opened)) (AreOfScript commits (I.left source.old)) (cause_in result.ended)) (λ deeds. MatchResult drives (λ ds. HaveGone M.Drive ds.items deeds result.drives.items) (λ why. deeds ≡ [])) result.hsm.history }
     ensures reading { HasRead (source_told I.left I.fault_count source.old source.new) (cause_in result.ended) }
@@ -190,7 +190,7 @@ fn run_script<D: Disk, M: Drive, I: Source>(
 ) -> Result<(), Cause>
     requires ready { IsReady replay.old }
     requires limits { replay.old.system.limits ≡ standard }
-    ensures goes_on { GoesOn D.Disk replay.old.system.store replay.new.system.store }
+    ensures goes_on { HasGrown D.Disk replay.old.system.store replay.new.system.store }
     ensures ran { HasRun (SettlesOn (Some replay.old.system.store.opened)) (TellsOf M.Drive replay.old.drives replay.new.drives) commits (source_told I.left I.fault_count source.old source.new) (cause_in result) replay.new.system.store.history }
     ensures deeds { HasDone standard (AreDone (MayGoOnOver (Some replay.old.system.store.opened)) (AreOfScript commits (I.left source.old)) (cause_in result)) (λ deeds. HaveGone M.Drive replay.old.drives deeds replay.new.drives) replay.new.system.store.history }
     ensures reading { HasRead (source_told I.left I.fault_count source.old source.new) (cause_in result) }

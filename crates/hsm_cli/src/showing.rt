@@ -8,7 +8,7 @@ ghost use Rattle.reconcile.specs.Classes.{AreRead, AreQuiet, FailsAt};
 ghost use Rattle.hsm_cli.specs.Outcomes.{ended_with};
 ghost use Rattle.hsm_cli.specs.Texts.{TakesText, IsShown, ShowsStore, AreUntold, AreCounted, GivesVolume};
 ghost use Rattle.hosts.specs.Hosts.{StoresAll};
-ghost use Rattle.hsm_cli.specs.Told.{FailsOnce, sink_told};
+ghost use Rattle.hsm_cli.specs.RunObjects.{FailsOnce, sink_told};
 ghost use Rattle.hsm_cli.specs.Endings.{cause_in, WritingEnds, ShowEnds, CountingEnds};
 ghost use Rattle.hsm_cli.specs.Clauses.{OnlyReads, HandsOut, HandsDrives, HasFailed, HasDriveFailed, FindsNothing, GivesShown, AsksShown, LacksShown};
 ghost use Rattle.hsm_cli.specs.Clauses.{NeverFailed};

@@ -4,7 +4,7 @@ ghost use Rattle.std.specs.Io.KnownBytes.{Consumes, Appends, IsAtEnd};
 ghost use Rattle.disk_model.specs.Calls.{Rose};
 ghost use Rattle.hsm_cli.specs.Sources.{script_bytes, ReadsMore, GivesMore, GivesFirst};
 ghost use Rattle.hsm_cli.specs.Texts.{TakesText};
-ghost use Rattle.hsm_cli.specs.Told.{FailsOnce, sink_told};
+ghost use Rattle.hsm_cli.specs.RunObjects.{FailsOnce, sink_told};
 ghost use Rattle.hsm_cli.specs.Endings.{cause_in, WritingEnds};
 
 use crate::causes::Cause;

@@ -21,7 +21,7 @@ ghost use Rattle.hosts.specs.Hosts.{AreHanded, HoldsAll, StoresAll};
 ghost use Rattle.hsm_cli.specs.Daemons.{KeepsThroughoutOver};
 ghost use Rattle.hsm_cli.specs.Deeds.{AreOfScript, DeedsClause, DrivesInMemory, DrivesWent, RunHasDone};
 ghost use Rattle.hsm_cli.specs.Sealing.{IsRightInMemory, IsRightInFolder};
-ghost use Rattle.hsm_cli.specs.Told.{FailsOnce, source_told, sink_told, host_told};
+ghost use Rattle.hsm_cli.specs.RunObjects.{FailsOnce, source_told, sink_told, host_told};
 
 use crate::causes::Cause;
 use crate::drilling::drill;

@@ -122,13 +122,13 @@ pub record Becomes {D R : Type 0} (g : disk.Ghosts D) (super : Superblock) (n : 
   pub ends : Ends g s.files n None done t.files
 
 -- What is kept of it, and told.
-pub record Keeps {R : Type 0} (old : List Entry) (actor : Actor) (action : Action) (say : R → Answer) (done : Result (R × R) MetaRefusal) (reply : R) (new : List Entry) : Type 0 where
+pub record IsTakenDown {R : Type 0} (old : List Entry) (actor : Actor) (action : Action) (say : R → Answer) (done : Result (R × R) MetaRefusal) (reply : R) (new : List Entry) : Type 0 where
   pub kept : IfOk done (λ r. (reply ≡ r.0) × (new ≡ old ++ entry_of actor action (say r.1) ∷ []))
   pub memory : IsErrOf done NoMemory → (say reply ≡ memory_of action) × (new ≡ old)
   pub failed : IsErrOf done Failed → (say reply ≡ fault_of action) × (new ≡ old ++ entry_of actor action (fault_of action) ∷ [])
 
 -- so there is at most one entry more
-pub one_more : {R : Type 0} (old new : List Entry) (actor : Actor) (action : Action) (say : R → Answer) (d : Result (R × R) MetaRefusal) (reply : R) → ((why : DmRefusal) → IsErrOf d (Part why) → None ≡ Some why) → Keeps old actor action say d reply new → length new ≤ length old + 1
+pub one_more : {R : Type 0} (old new : List Entry) (actor : Actor) (action : Action) (say : R → Answer) (d : Result (R × R) MetaRefusal) (reply : R) → ((why : DmRefusal) → IsErrOf d (Part why) → None ≡ Some why) → IsTakenDown old actor action say d reply new → length new ≤ length old + 1
 one_more old new actor action say (Ok r) reply whole keeps = rw keeps.kept.1 (omega (arith, length-append old (entry_of actor action (say r.1) ∷ [])))
 one_more old new actor action say (Err NoMemory) reply whole keeps = rw (keeps.memory refl).1 (omega arith)
 one_more old new actor action say (Err Failed) reply whole keeps = rw (keeps.failed refl).1 (omega (arith, length-append old (entry_of actor action (fault_of action) ∷ [])))
@@ -145,7 +145,7 @@ always (Ok x) p = (p, tt)
 always (Err e) p = (tt, p)
 
 module _ {D R : Type 0} (g : disk.Ghosts D) (s t : Store D) (has : HasRun g s) (safe : IsSafe g s) (working : s.files.failed ≡ false) (opened : t.opened ≡ s.opened) (actor : Actor) (action : Action) (acts : Acts actor action) (say : R → Answer) (own : Held → R) (reply : R) where
-  ended : (d : Result (R × R) MetaRefusal) → Becomes g (superblock_of s.opened) (last_number s) s t actor action say own d → Keeps s.history actor action say d reply t.history → IsNext g s actor action (say reply) t
+  ended : (d : Result (R × R) MetaRefusal) → Becomes g (superblock_of s.opened) (last_number s) s t actor action say own d → IsTakenDown s.history actor action say d reply t.history → IsNext g s actor action (say reply) t
   ended (Ok r) became keeps =
       let seen = became.replies.0 in
       let both = became.replies.2 in
@@ -176,7 +176,7 @@ module _ {D : Type 0} (g : disk.Ghosts D) (s : Store D) (has : HasRun g s) (safe
   same i = record s { stamps = stamped i; history = noted i }
 
   pub event : {R : Type 0} (t : Store D) → s.files.failed ≡ false → t.opened ≡ s.opened → (actor : Actor) (action : Action) → Acts actor action → (say : R → Answer) (own : Held → R) (reply : R) (n : ℕ) → n ≡ last_number ready → (d : Result (R × R) MetaRefusal)
-      → Becomes g (superblock_of s.files) n ready t actor action say own d → Keeps history actor action say d reply t.history → IsNext g s actor action (say reply) t
+      → Becomes g (superblock_of s.files) n ready t actor action say own d → IsTakenDown history actor action say d reply t.history → IsNext g s actor action (say reply) t
   event t working opened actor action acts say own reply n number d became keeps =
       let run : HasRun g ready = subst (λ (x : Store D). HasRun g x) (sym same) has in
       let formatted = subst (λ (x : Superblock). Becomes g x n ready t actor action say own d) (formatted_as ready run) became in

@@ -14,7 +14,7 @@ pub mod Lasting
 pub mod Serving
 pub mod HandedOut
 pub mod Aways
-pub mod Told
+pub mod ToldSegments
 pub mod Moved
 pub mod Syncs
 pub mod Runs

@@ -34,7 +34,7 @@ use Rattle.snapshot_text.specs.declared.refusal.MetaRefusal.TheVariants.{Part, D
 use Rattle.file_store.specs.Changes.{Changes}
 use Rattle.file_store.specs.Stores.{Store as FileStore, superblock_of, IsLawful, IsStubbed, Proceeds}
 use Rattle.file_store.proofs.Ended.{ends_done, ends_err}
-use Rattle.hsm_core.specs.Services.{anybody, service_over, service_on, told_where, held_where, replies_to, IsServed}
+use Rattle.hsm_core.specs.Services.{anybody, service_over, service_on, told_where, held_where, replies_to, IsServedByFiles}
 use Rattle.hsm_core.proofs.Refusing.{passes, alone}
 use Rattle.hsm_core.proofs.Seeing.{held_seen}
 
@@ -89,7 +89,7 @@ restored_len (Some x) entry bytes n is len print = by x.offline is
 
 -- it is the answer of the service over what is seen of the files
 pub served : {D : Type 0} (g : disk.Ghosts D) (old new : FileStore D) (n : ℕ) (call : DmCall) (k : FileKey) (effect : Effect) (own : Option DmRefusal) (ended : Result Unit MetaRefusal) (seen : Held) → IsSeen (Tells g new.disk) old.held seen → Changes g old n k effect own ended new
-    → own ≡ (service_over (superblock_of old) seen call).refusal → change_of anybody call ≡ OfFile k effect → (service_over (superblock_of old) seen call).reply ≡ reply.Done → old.failed ≡ false → IsServed g old n call (replies_to ended) new
+    → own ≡ (service_over (superblock_of old) seen call).refusal → change_of anybody call ≡ OfFile k effect → (service_over (superblock_of old) seen call).reply ≡ reply.Done → old.failed ≡ false → IsServedByFiles g old n call (replies_to ended) new
 served g old new n call k effect own (Ok x) seen is_seen is own_is changes is_done works =
     let none = sym own_is ∙ is.ends.judged in
     let told = sym (ap (λ why. told_where why (service_over (superblock_of old) seen call).reply) none ∙ is_done) in
@@ -110,8 +110,8 @@ served g old new n call k effect own (Err Disk) seen is_seen is own_is changes i
 
 -- the change is done, or its part refuses as the service does, or it fails
 pub change_served : {D : Type 0} {g : disk.Ghosts D} {old new : FileStore D} {n : ℕ} {call : DmCall} {k : FileKey} {effect : Effect} {own : Option DmRefusal} {ended : Result Unit MetaRefusal} {result : Result (DmReply × DmReply) MetaRefusal} → Changes g old n k effect own ended new
-    → own ≡ (service_on old call).refusal → change_of anybody call ≡ OfFile k effect → (service_on old call).reply ≡ reply.Done → old.failed ≡ false → result ≡ replies_to ended → IsServed g old n call result new
-change_served {D} {g} {old} {new} {n} {call} is own changes is_done works told = subst (λ r. IsServed g old n call r new) (sym told) (served g old new n call _ _ _ _ old.held (held_seen old.held) is own changes is_done works)
+    → own ≡ (service_on old call).refusal → change_of anybody call ≡ OfFile k effect → (service_on old call).reply ≡ reply.Done → old.failed ≡ false → result ≡ replies_to ended → IsServedByFiles g old n call result new
+change_served {D} {g} {old} {new} {n} {call} is own changes is_done works told = subst (λ r. IsServedByFiles g old n call r new) (sym told) (served g old new n call _ _ _ _ old.held (held_seen old.held) is own changes is_done works)
 
 refused_held : (change : Change) (why : DmRefusal) (h : Held) → h ≡ held_where change (Some why) h
 refused_held Nothing why h = refl
@@ -121,7 +121,7 @@ refused_held (OfRights to) why h = refl
 refused_held (Closes owner token) why h = refl
 
 -- a call that is refused before anything of it is done
-pub refused_served : {D : Type 0} {g : disk.Ghosts D} {old : FileStore D} {n : ℕ} {call : DmCall} {r : DmReply × DmReply} (why : DmRefusal) → (service_on old call).refusal ≡ Some why → old.failed ≡ false → Proceeds g old n old → AreBoth (reply.Refused why) r → IsServed g old n call (Ok r) old
+pub refused_served : {D : Type 0} {g : disk.Ghosts D} {old : FileStore D} {n : ℕ} {call : DmCall} {r : DmReply × DmReply} (why : DmRefusal) → (service_on old call).refusal ≡ Some why → old.failed ≡ false → Proceeds g old n old → AreBoth (reply.Refused why) r → IsServedByFiles g old n call (Ok r) old
 refused_served {D} {g} {old} {n} {call} {r} why refuses works idle both = record {
   serves = (
     old.held,

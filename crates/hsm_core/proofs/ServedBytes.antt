@@ -34,7 +34,7 @@ use Rattle.file_store.specs.Looks.{Looks}
 use Rattle.file_store.specs.Stores.{Store as FileStore, superblock_of}
 use Rattle.file_store.proofs.Durable.{proceeds_on}
 use Rattle.file_store.proofs.Ended.{faults_on}
-use Rattle.hsm_core.specs.Services.{anybody, service_over, told_where, held_where, service_on, unread_refusals, replies_to, ServesBy, IsServed}
+use Rattle.hsm_core.specs.Services.{anybody, service_over, told_where, held_where, service_on, unread_refusals, replies_to, ServesBy, IsServedByFiles}
 use Rattle.hsm_core.proofs.Looking.{looked, look_lacked, look_failed}
 use Rattle.hsm_core.proofs.Moved.{served, seal_left}
 use Rattle.hsm_core.proofs.Refusing.{one_stops, stops}
@@ -61,7 +61,7 @@ ServesOver g new call result s h = IfOk result (λ r. IsOfSeen (Tells g new.disk
 super_same : {D : Type 0} (a b : FileStore D) → a.meta ≡ b.meta → superblock_of a ≡ superblock_of b
 super_same a b same = ap (λ (m : Meta). record { geometry = geometry_of m.durable.geometry; fsid = m.fsid }) same
 
-served_on : {D S : Type 0} (g : disk.Ghosts D) (old mid new : FileStore D) (n : ℕ) (call : DmCall) (result : Result (DmReply × DmReply) MetaRefusal) (x : S) → Looks g old (Ok x) mid → IsServed g mid n call result new → IsServed g old n call result new
+served_on : {D S : Type 0} (g : disk.Ghosts D) (old mid new : FileStore D) (n : ℕ) (call : DmCall) (result : Result (DmReply × DmReply) MetaRefusal) (x : S) → Looks g old (Ok x) mid → IsServedByFiles g mid n call result new → IsServedByFiles g old n call result new
 served_on g old mid new n call result x looks is = record {
   serves = subst (λ (s : Superblock). ServesOver g new call result s old.held) (super_same mid old looks.meta) (subst (λ (h : Held). ServesOver g new call result (superblock_of mid) h) looks.held is.serves);
   ends = ends_on g old mid new n x result (looks.ends n) looks.held is.ends;
@@ -72,11 +72,11 @@ no_reply P Q result is = subst (λ (r : Result (DmReply × DmReply) MetaRefusal)
 
 module _ {D S : Type 0} (g : disk.Ghosts D) (old new : FileStore D) (n : ℕ) (call : DmCall) (result : Result (DmReply × DmReply) MetaRefusal) where
   -- the look has failed, so nothing is answered
-  pub failed_served : (why : MetaRefusal) → Looks {T = S} g old (Err why) new → IsErrAnd result (λ e. e ≡ why) → IsServed g old n call result new
+  pub failed_served : (why : MetaRefusal) → Looks {T = S} g old (Err why) new → IsErrAnd result (λ e. e ≡ why) → IsServedByFiles g old n call result new
   failed_served why looks is = record { serves = no_reply _ _ result is; ends = look_failed g old new why result looks is n }
 
   -- there is no memory to answer
-  pub lacked_served : (x : S) → Looks g old (Ok x) new → IsErrAnd result (λ e. e ≡ Memory) → IsServed g old n call result new
+  pub lacked_served : (x : S) → Looks g old (Ok x) new → IsErrAnd result (λ e. e ≡ Memory) → IsServedByFiles g old n call result new
   lacked_served x looks is = record { serves = no_reply _ _ result is; ends = look_lacked g old new x result looks is n }
 
 -- ---- an invisible read
@@ -87,7 +87,7 @@ module _ {D : Type 0} (g : disk.Ghosts D) (old : FileStore D) (handle : Handle) 
 
   -- the bytes that were seen are told
   pub read_told : (new : FileStore D) (n : ℕ) (bytes : List ℕ) (r : DmReply × DmReply) → reading_refusal (file_at handle.key old.held.files) offset len ≡ None
-      → IsOfSeen (Tells g new.disk) old.held (λ seen. bytes ≡ read_at offset len (bytes_of handle.key seen.files)) → Looks g old (Ok bytes) new → AreBoth (reply.Data bytes) r → IsServed g old n Read (Ok r) new
+      → IsOfSeen (Tells g new.disk) old.held (λ seen. bytes ≡ read_at offset len (bytes_of handle.key seen.files)) → Looks g old (Ok bytes) new → AreBoth (reply.Data bytes) r → IsServedByFiles g old n Read (Ok r) new
   read_told new n bytes r none shown looks both =
       let seen : Held = shown.0 in
       let passes = reading_seen old.held seen shown.1 handle.key offset len ∙ none in
@@ -126,7 +126,7 @@ module _ {D : Type 0} (g : disk.Ghosts D) (old : FileStore D) (n : ℕ) (handle 
         (shown.0, shown.1, seal_seen old.held shown.0 shown.1 handle.key j entry passes ∙ ap (other_print (entry_print entry)) (sym shown.2))
 
     -- they aren't those of the entry
-    pub seal_changed : (why : DmRefusal) (r : DmReply × DmReply) → other_print (entry_print entry) got ≡ Some why → AreBoth (reply.Refused why) r → IsServed g old n Sealing (Ok r) mid
+    pub seal_changed : (why : DmRefusal) (r : DmReply × DmReply) → other_print (entry_print entry) got ≡ Some why → AreBoth (reply.Refused why) r → IsServedByFiles g old n Sealing (Ok r) mid
     seal_changed why r refuses both =
         let all = stops (refusal_in by_bytes.0) (many_in (superblock_of old) by_bytes.0 ∷ []) why (by_bytes.2 ∙ refuses) in
         record {
@@ -143,12 +143,12 @@ module _ {D : Type 0} (g : disk.Ghosts D) (old : FileStore D) (n : ℕ) (handle 
 
     -- they are
     pub seal_served : (new : FileStore D) (ended : Result Unit MetaRefusal) (result : Result (DmReply × DmReply) MetaRefusal) → other_print (entry_print entry) got ≡ None
-        → Changes g mid n handle.key (Seals j entry) (many_in (superblock_of mid) mid.held) ended new → result ≡ replies_to ended → IsServed g old n Sealing result new
+        → Changes g mid n handle.key (Seals j entry) (many_in (superblock_of mid) mid.held) ended new → result ≡ replies_to ended → IsServedByFiles g old n Sealing result new
     seal_served new ended result none changed told =
         let seen : Held = by_bytes.0 in
         let is_seen : IsSeen (Tells g new.disk) mid.held seen = subst (λ (h : Held). IsSeen (Tells g new.disk) h seen) (sym looks.held) (weaker_seen changed.ends.proceeds.moments.tells old.held seen by_bytes.1) in
         let own : many_in (superblock_of mid) mid.held ≡ many_in (superblock_of mid) seen = (λ i. too_many_stubs j (sym (other_stubs_seen mid.held seen is_seen handle.key) i) (superblock_of mid).geometry.stubs (sym (kept_seen mid.held seen is_seen handle.key) i).stubs) in
         served_on g old mid new n Sealing result got looks
-        (subst (λ r. IsServed g mid n Sealing r new) (sym told)
+        (subst (λ r. IsServedByFiles g mid n Sealing r new) (sym told)
         (served g mid new n Sealing handle.key (Seals j entry) (many_in (superblock_of mid) mid.held) ended seen is_seen changed
         (own ∙ sym (seal_left (file_at handle.key seen.files) j entry (many_in (superblock_of mid) seen) (by_bytes.2 ∙ none))) refl refl (looks.ends n).working))

@@ -34,7 +34,7 @@ use Rattle.dm_service.specs.Services.{asks_rights, asks_tables, done_or, session
 use Rattle.dm_service.specs.Tables.{Tables}
 use Rattle.hsm_core.specs.Store.{state_with}
 use Rattle.hsm_core.specs.Services.{anybody, asked, file_refusals, told_where, held_where, service_with, rights_where, changes_file, reads_bytes, IsGranted}
-use Rattle.hsm_core.specs.Services.{ServesBy, IsPerformed, IsServed}
+use Rattle.hsm_core.specs.Services.{ServesBy, IsPerformed, IsServedByFiles}
 use Rattle.plain_model.proofs.Seeing.{told_own}
 use Rattle.hsm_core.proofs.Refusing.{all_pass, one_stops, alone}
 use Rattle.hsm_core.proofs.Alike.{scope_alike}
@@ -194,7 +194,7 @@ module _ (Told : Type 0) (s : Superblock) (h : Held) (stamps : List (FileKey × 
 
 module _ {D : Type 0} (g : disk.Ghosts D) (old new : FileStore D) (n : ℕ) (stamps : List (FileKey × ℕ)) (t : Tables) (sid : Sid) where
   -- a change asks of the files alone
-  pub change_performed : (call : DmCall) (result : Result (DmReply × DmReply) MetaRefusal) → changes_file call ≡ true → IsServed g old n call result new → IsPerformed g old n stamps t sid call result new
+  pub change_performed : (call : DmCall) (result : Result (DmReply × DmReply) MetaRefusal) → changes_file call ≡ true → IsServedByFiles g old n call result new → IsPerformed g old n stamps t sid call result new
   change_performed (SetRegion token handle regions) result is served = record { serves = served.serves; ends = served.ends }
   change_performed (SetDmAttr token handle name value) result is served = record { serves = served.serves; ends = served.ends }
   change_performed (RemoveDmAttr token handle name) result is served = record { serves = served.serves; ends = served.ends }
@@ -206,7 +206,7 @@ module _ {D : Type 0} (g : disk.Ghosts D) (old new : FileStore D) (n : ℕ) (sta
   change_performed call result is served = absurd cc
 
   -- so does a read
-  pub read_performed : (token : Token) (handle : Handle) (offset len : ℕ) (result : Result (DmReply × DmReply) MetaRefusal) → IsServed g old n (ReadInvis no_token handle offset len) result new
+  pub read_performed : (token : Token) (handle : Handle) (offset len : ℕ) (result : Result (DmReply × DmReply) MetaRefusal) → IsServedByFiles g old n (ReadInvis no_token handle offset len) result new
       → IsPerformed g old n stamps t sid (ReadInvis token handle offset len) result new
   read_performed token handle offset len result served = record { serves = served.serves; ends = served.ends }
 

@@ -121,7 +121,7 @@ pub record IsPerformed {D : Type 0} (g : disk.Ghosts D) (old : FileStore D) (n :
   pub ends : Ends g old n None result new
 
 -- The same of a call that asks of the files alone.
-pub record IsServed {D : Type 0} (g : disk.Ghosts D) (old : FileStore D) (n : ℕ) (call : DmCall) (result : Result (DmReply × DmReply) MetaRefusal) (new : FileStore D) : Type 0 where
+pub record IsServedByFiles {D : Type 0} (g : disk.Ghosts D) (old : FileStore D) (n : ℕ) (call : DmCall) (result : Result (DmReply × DmReply) MetaRefusal) (new : FileStore D) : Type 0 where
   pub serves : IfOk result (λ r. IsOfSeen (Tells g new.disk) old.held (λ seen. ServesBy (service_over (superblock_of old) seen call) (change_of anybody call) old.held new.held r))
   pub ends : Ends g old n None result new
 

@@ -12,7 +12,7 @@ ghost use Rattle.dm_service.specs.Tables.{Tables, awaited_in};
 ghost use Rattle.file_store.specs.Stores.{superblock_of, Proceeds};
 ghost use Rattle.file_store.specs.Changes.{Ends};
 ghost use Rattle.hsm_core.specs.Store.{state_with};
-ghost use Rattle.hsm_core.specs.Services.{AreOf, IsInScope, IsPerformed, IsServed, asked, changes_file, reads_bytes};
+ghost use Rattle.hsm_core.specs.Services.{AreOf, IsInScope, IsPerformed, IsServedByFiles, asked, changes_file, reads_bytes};
 
 mod attributes;
 mod handles;
@@ -133,7 +133,7 @@ fn change<D: Disk>(
     requires rises { files.old.meta.number ≤ number }
     requires changes { changes_file call.now ≡ true }
     requires within { IsInScope files.old.held.files (scope_of call.now) }
-    ensures { IsServed D.Disk files.old number call.now result files.new }
+    ensures { IsServedByFiles D.Disk files.old number call.now result files.new }
 {
     match call {
         DmCall::SetRegion {

@@ -19,7 +19,7 @@ use Rattle.plain_model.specs.declared.entries.Actor.{Actor}
 use Rattle.plain_model.specs.declared.entries.Actor.TheVariants.{Caller}
 use Rattle.plain_model.specs.declared.entries.Answer.{Answer}
 use Rattle.plain_model.specs.declared.entries.Entry.{Entry}
-use Rattle.deeds.specs.Deeds.{entry_of, Deed, Enters, Starts, Kills, Refreshes, IsServed, entries_of}
+use Rattle.deeds.specs.Deeds.{entry_of, Deed, Enters, Starts, Kills, Refreshes, StopsNothing, entries_of}
 use Rattle.deeds.specs.Given.{Given, given_of, asked_behind, given_behind}
 use Rattle.deeds.specs.Lives.{life}
 use Rattle.deeds.proofs.Giving.{given_then}
@@ -33,7 +33,7 @@ use Rattle.hsm_system.specs.declared.stops.Stop.TheVariants as stop
 use Rattle.marked_history.specs.Quiet.{is_quiet}
 use Rattle.hsm_replay.specs.Deeds.{given_now, IsSo, RunsBy, IsDoneBy, IsStoppedBy, ByDeeds}
 use Rattle.hsm_replay.specs.Deeds.{MayResumeBy, IsResumeCut, IsRoundOf}
-use Rattle.hsm_replay.specs.GoingOn.{MayGoOn}
+use Rattle.hsm_replay.specs.ReadyCallers.{MayGoOn}
 use Rattle.hsm_replay.specs.Parts.{IsStep, IsLeft, IsLeftFrom, IsTurn, IsTurnFrom, IsTurnIf, AreResumes, are_quiet, IsRound, IsSettle}
 use Rattle.hsm_replay.specs.Stopped.{Ending, Broken, Unmade, AreResumesCut, IsEventCut, IsStepCut, IsLeftCut}
 use Rattle.hsm_replay.specs.Stopped.{IsLeftCutFrom, IsTurnCut, IsTurnCutFrom, IsRoundCut, IsSettleCut}
@@ -42,7 +42,7 @@ use Rattle.hsm_replay.specs.Turns.{HasTurned, HaveResumed}
 use Rattle.hsm_replay.proofs.Deeds.{runs_still, done_none, done_then, stopped_then, done_as, stopped_as, done_to}
 use Rattle.hsm_replay.proofs.PartsOn.{IsAtRest, IsSoFar, so_far_none, so_far_on, so_far_over, so_far_cut}
 use Rattle.hsm_replay.proofs.PartsOn.{step_turns, step_turns_cut, step_cut, left_turns, left_cut, left_turns_cut}
-use Rattle.hsm_replay.proofs.GoingOn.{goes_as}
+use Rattle.hsm_replay.proofs.ReadyCallers.{goes_as}
 use Rattle.hsm_replay.proofs.Resuming.{ResumesTo, resumes_none, resumes_all, resume_next, resume_cut}
 use Rattle.hsm_replay.proofs.PartsOn.{RoundsTo, rounds_none, rounds_on, rounds_settle, rounds_cut}
 use Rattle.hsm_replay.proofs.PartsRun.{given_so}
@@ -51,7 +51,7 @@ use Rattle.hsm_replay.proofs.Rounds.{drop_first}
 -- ---- events
 
 abbrev pub IsEntryOf : Actor → Action → Given → List Deed → Type 0
-IsEntryOf actor asked given deeds = (told : Answer) × IsServed told × (deeds ≡ Enters (entry_of actor asked told) ∷ [])
+IsEntryOf actor asked given deeds = (told : Answer) × StopsNothing told × (deeds ≡ Enters (entry_of actor asked told) ∷ [])
 
 abbrev pub IsCutOf : Actor → Action → Given → Ending → List Deed → Type 0
 IsCutOf actor asked given ending deeds = IsEventCut actor asked ending deeds

@@ -43,7 +43,7 @@ use Rattle.hsm_system.specs.declared.awaited.Outcome.TheVariants as outcome
 use Rattle.hsm_system.specs.Running.{Migrating, Recalling}
 use Rattle.hsm_system.specs.declared.stops.Stop.{Stop}
 use Rattle.hsm_system.specs.declared.stops.Stop.TheVariants as stop
-use Rattle.hsm_system.proofs.Going.{event_goes}
+use Rattle.hsm_system.proofs.AfterEvents.{event_goes}
 use Rattle.hsm_system.proofs.Leading.{goes_then, gives_goes, gives_awaits, answered_hears, stops_goes, taken_goes, loses_goes, awaits_runs, heard_store}
 use Rattle.hsm_system.proofs.Outcomes.{outcome_fits}
 use Rattle.hsm_replay.specs.Acts.{Performs, Stops, CopiesTo, FetchesFrom}

@@ -24,7 +24,7 @@ use Rattle.hsm_system.specs.Events.{Runs, IsDone, actor_of, action_of}
 use Rattle.hsm_system.specs.Systems.{System}
 use Rattle.hsm_system.specs.declared.events.Event.{Event as Made}
 use Rattle.hsm_system.specs.declared.stops.Stop.{Stop}
-use Rattle.hsm_system.proofs.Going.{event_kept_or_not}
+use Rattle.hsm_system.proofs.AfterEvents.{event_kept_or_not}
 use Rattle.hsm_replay.specs.Doing.{Does}
 use Rattle.hsm_replay.specs.Faults.{fault_in, faults_in, AreTrue}
 use Rattle.hsm_replay.specs.Keeping.{RecallKnows, MigrateKnows, IsMarked, Shows, Moves, LiveUntil}

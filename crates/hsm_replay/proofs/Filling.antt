@@ -25,7 +25,7 @@ use Rattle.hsm_policy.specs.Settings.{Numbers}
 use Rattle.hsm_policy.specs.declared.picking.Picked.{Picked}
 use Rattle.volume_shelf.specs.Shelf.{CopyRefused}
 use Rattle.migrate_daemon.specs.Known.{Known, knows_by}
-use Rattle.migrate_daemon.specs.Machine.{Machine, started, GoesOn, MayGive, VolumeStays, ComesTo}
+use Rattle.migrate_daemon.specs.Machine.{Machine, started, StepsOn, MayGive, VolumeStays, ComesTo}
 use Rattle.migrate_daemon.specs.Passes.{Pass, begun_pass, IsCopy, IsEnd, IsFull, EndsAt, copies}
 use Rattle.hsm_system.specs.Running.{Migrating}
 use Rattle.hsm_system.specs.declared.daemons.Next.TheVariants.{Hears}
@@ -215,7 +215,7 @@ module _ {M : Type 0} (g : drive.Ghosts M) where
     comes_ended limits old new asked told below on hears ended comes = stays_ended limits old new asked told below on hears ended comes.ended
 
   -- The machine goes on, and its act leaves these drives and is told so.
-  pub full_on : (limits : Numbers) (ds es : List M) (m : Migrating) (machine : Machine) (act : Act) (told : Heard) → HaveGrown g ds es → FindsFull g ds limits m → GoesOn m.machine (told_next m.next) act machine → HearsFull g es act told → FindsFull g es limits (record { machine = machine; next = Hears told })
+  pub full_on : (limits : Numbers) (ds es : List M) (m : Migrating) (machine : Machine) (act : Act) (told : Heard) → HaveGrown g ds es → FindsFull g ds limits m → StepsOn m.machine (told_next m.next) act machine → HearsFull g es act told → FindsFull g es limits (record { machine = machine; next = Hears told })
   full_on limits ds es m machine act told grown finds goes hears =
       let old : Pass = m.machine.pass in
       let comes : ComesTo limits old m.machine.asked (told_next m.next) machine.pass = subst (λ (l : Numbers). ComesTo l old m.machine.asked (told_next m.next) machine.pass) finds.counts goes.pass in

@@ -18,12 +18,12 @@ use Rattle.plain_model.specs.declared.entries.Entry.{Entry}
 use Rattle.hsm_core.specs.Answers.{entry_of}
 use Rattle.hsm_policy.specs.Settings.{Numbers}
 use Rattle.migrate_daemon.specs.Known.{Known, hears, asks, knows_by, asks_by}
-use Rattle.migrate_daemon.specs.Machine.{Machine, GoesOn}
+use Rattle.migrate_daemon.specs.Machine.{Machine, StepsOn}
 use Rattle.hsm_system.specs.Running.{Migrating, untold_next}
 use Rattle.hsm_replay.specs.Freshness.{IsFresh, IsToldTable, StaysFresh}
 use Rattle.hsm_system.specs.Systems.{migrate_again}
 use Rattle.hsm_replay.specs.Systems.{Run, refreshed, told_next}
-use Rattle.hsm_replay.proofs.Coming.{IsNoCall}
+use Rattle.hsm_replay.proofs.SessionCalls.{IsNoCall}
 
 -- ---- what is known of it
 
@@ -62,14 +62,14 @@ module _ (m : Migrating) (machine : Machine) (fresh : (knows_by m.machine.limits
   abbrev now : Known
   now = knows_by m.machine.limits m.machine.known m.machine.asked (told_next m.next)
 
-  knows_then : (act : Act) (told : Heard) → GoesOn m.machine (told_next m.next) act machine → knows_by machine.limits (asks_by now act) act told ≡ knows_by machine.limits machine.known machine.asked told
+  knows_then : (act : Act) (told : Heard) → StepsOn m.machine (told_next m.next) act machine → knows_by machine.limits (asks_by now act) act told ≡ knows_by machine.limits machine.known machine.asked told
   knows_then act told goes = ap (λ (a : Act). knows_by machine.limits (asks_by now act) a told) (sym goes.asked) ∙ ap (λ (k : Known). knows_by machine.limits k machine.asked told) (sym goes.known)
 
-  pub fresh_called : (sid : Sid) (call : DmCall) (given : DmReply) → GoesOn m.machine (told_next m.next) (Dm sid call) machine
+  pub fresh_called : (sid : Sid) (call : DmCall) (given : DmReply) → StepsOn m.machine (told_next m.next) (Dm sid call) machine
       → ((knows_by machine.limits machine.known machine.asked (heard.Dm given)).fresh ≡ true) ⊎ IsToldTable (entry_of (Session sid) (action.Dm call) (answer.Dm given) ∷ [])
   fresh_called sid call given goes = subst (λ (k : Known). (k.fresh ≡ true) ⊎ IsToldTable (entry_of (Session sid) (action.Dm call) (answer.Dm given) ∷ [])) (knows_then (Dm sid call) (heard.Dm given) goes) (fresh_then machine.limits now sid call given fresh)
 
-  pub fresh_went : (act : Act) (told : Heard) → IsNoCall act → GoesOn m.machine (told_next m.next) act machine → (knows_by machine.limits machine.known machine.asked told).fresh ≡ true
+  pub fresh_went : (act : Act) (told : Heard) → IsNoCall act → StepsOn m.machine (told_next m.next) act machine → (knows_by machine.limits machine.known machine.asked told).fresh ≡ true
   fresh_went act told no_call goes = subst (λ (k : Known). k.fresh ≡ true) (knows_then act told goes) (fresh_behind machine.limits now act told no_call fresh)
 
 -- ---- from one system to the next

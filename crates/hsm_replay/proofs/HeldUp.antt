@@ -47,7 +47,7 @@ use Rattle.recall_daemon.specs.Known.{Known, Hand, hears, asks, knows_by, IsReas
 use Rattle.hsm_system.specs.Asking.{NonePutOff, IsEmptyHanded}
 use Rattle.marked_history.specs.Quiet.{is_quiet, is_quiet_event}
 use Rattle.marked_history.specs.Served.{IsTold}
-use Rattle.hsm_replay.specs.Settled.{IsHeldUp, AreHeldUp}
+use Rattle.hsm_replay.specs.Settled.{IsStillRefused, AreStillRefused}
 use Rattle.hsm_replay.specs.Turns.{Stands, IsEarly, IsKeptBack}
 use Rattle.hsm_system.proofs.Asked.{none_put_off}
 use Rattle.marked_history.proofs.Lists.{all_weaker, all_then}
@@ -57,7 +57,7 @@ use Rattle.hsm_replay.proofs.Refusals.{RefusesRight, RefusesResponse, right_refu
 
 -- where it is put off it is held up
 abbrev pub IsUp : List Entry → Rights → Seat → Kept → Type 0
-IsUp entries rights seat k = k.marked ≡ true → IsHeldUp entries rights seat k.event.token
+IsUp entries rights seat k = k.marked ≡ true → IsStillRefused entries rights seat k.event.token
 
 -- of what is not put off nothing is asked
 none_up : (entries : List Entry) (rights : Rights) (seat : Seat) (kept : List Kept) → NonePutOff kept → AllByRecursion (IsUp entries rights seat) kept
@@ -140,7 +140,7 @@ module _ (entries : List Entry) (rights : Rights) (e : Entry) where
   abbrev all_now : List Entry
   all_now = entries ++ e ∷ []
 
-  still_up : (old new : Seat) (t : Token) → new.sid ≡ old.sid → ((h : Handle) → IsTold old.kept t h → IsTold new.kept t h) → IsHeldUp entries rights old t → IsHeldUp all_now rights new t
+  still_up : (old new : Seat) (t : Token) → new.sid ≡ old.sid → ((h : Handle) → IsTold old.kept t h → IsTold new.kept t h) → IsStillRefused entries rights old t → IsStillRefused all_now rights new t
   still_up old new t sid told up = record {
     sid = up.sid;
     handle = up.handle;
@@ -163,9 +163,9 @@ module _ (entries : List Entry) (rights : Rights) (e : Entry) where
   forgot_up seat t all = all_forgot t (IsUp entries rights seat) (IsUp all_now rights (record seat { kept = forgot t seat.kept })) seat.kept
       (λ k other up marked. still_up seat (record seat { kept = forgot t seat.kept }) k.event.token refl (λ h told. told_forgot t seat.kept k h other told) (up marked)) all
 
-  marked_up : (seat : Seat) (t : Token) → IsHeldUp all_now rights (record seat { kept = marked_at t seat.kept }) t → AllByRecursion (IsUp entries rights seat) seat.kept → AllByRecursion (IsUp all_now rights (record seat { kept = marked_at t seat.kept })) (marked_at t seat.kept)
+  marked_up : (seat : Seat) (t : Token) → IsStillRefused all_now rights (record seat { kept = marked_at t seat.kept }) t → AllByRecursion (IsUp entries rights seat) seat.kept → AllByRecursion (IsUp all_now rights (record seat { kept = marked_at t seat.kept })) (marked_at t seat.kept)
   marked_up seat t new all = all_marked_at t (IsUp entries rights seat) (IsUp all_now rights (record seat { kept = marked_at t seat.kept })) seat.kept
-      (λ k is marked. subst (λ (u : Token). IsHeldUp all_now rights (record seat { kept = marked_at t seat.kept }) u) (sym (has_token t k is)) new)
+      (λ k is marked. subst (λ (u : Token). IsStillRefused all_now rights (record seat { kept = marked_at t seat.kept }) u) (sym (has_token t k is)) new)
       (λ k up marked. still_up seat (record seat { kept = marked_at t seat.kept }) k.event.token refl (λ h told. told_marked t seat.kept k.event.token h told) (up marked)) all
 
 -- ---- a call in a quiet turn
@@ -194,7 +194,7 @@ module _ (entries : List Entry) (k : Known) (asked : Act) (told : Heard) (s : Su
     abbrev AfterRequest : DmReply → Type 0
     AfterRequest given = IsBackAt (request given) (hears (asks k (RequestRight t h right)) (RequestRight t h right) given) (Dm sid (RequestRight t h right))
 
-    requested : (holder : Token) (seat : Seat) → seat.sid ≡ k.seat.sid → IsTold seat.kept t h → conflict h.key right t st.rights ≡ Some holder → IsHeldUp (entries ++ request (reply.Refused (why.Busy holder)) ∷ []) st.rights seat t
+    requested : (holder : Token) (seat : Seat) → seat.sid ≡ k.seat.sid → IsTold seat.kept t h → conflict h.key right t st.rights ≡ Some holder → IsStillRefused (entries ++ request (reply.Refused (why.Busy holder)) ∷ []) st.rights seat t
     requested holder seat same about held = record {
       sid = sid;
       handle = h;
@@ -279,15 +279,15 @@ module _ (entries : List Entry) (rights : Rights) (k : Known) (asked : Act) (tol
   pub after_rest : IsKeptBack entries rights (record k { seat = rested }) Idle
   after_rest = record { early = tt; unsized = back.unsized; held_up = none_up entries rights rested (all_marked false k.seat.kept) (none_put_off k.seat.kept) }
 
-  still_at_rest : (t : Token) → IsHeldUp entries rights k.seat t → IsHeldUp entries rights rested t
+  still_at_rest : (t : Token) → IsStillRefused entries rights k.seat t → IsStillRefused entries rights rested t
   still_at_rest t up = record { sid = up.sid; handle = up.handle; holder = up.holder; session = up.session; told = told_unmarked k.seat.kept t up.handle up.told; refused = up.refused; holds = up.holds }
 
-  all_at_rest : (kept : List Kept) → AllByRecursion (λ (x : Kept). x.marked ≡ true) kept → AllByRecursion (IsUp entries rights k.seat) kept → AllByRecursion (λ (x : Kept). IsHeldUp entries rights rested x.event.token) (all_marked false kept)
+  all_at_rest : (kept : List Kept) → AllByRecursion (λ (x : Kept). x.marked ≡ true) kept → AllByRecursion (IsUp entries rights k.seat) kept → AllByRecursion (λ (x : Kept). IsStillRefused entries rights rested x.event.token) (all_marked false kept)
   all_at_rest [] put_off up = tt
   all_at_rest (x ∷ more) put_off up = (still_at_rest x.event.token (up.0 put_off.0), all_at_rest more put_off.1 up.1)
 
   -- what it has put off was held up
-  pub held_up_at_rest : ArePutOff k.seat.kept → AreHeldUp entries rights rested
+  pub held_up_at_rest : ArePutOff k.seat.kept → AreStillRefused entries rights rested
   held_up_at_rest put_off = all_at_rest k.seat.kept (recursion_from_All (λ (x : Kept). x.marked ≡ true) k.seat.kept put_off) back.held_up
 
 -- ---- at a turn's beginning

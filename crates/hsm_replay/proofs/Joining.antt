@@ -9,14 +9,14 @@ use Rattle.plain_model.specs.declared.entries.Actor.TheVariants.{Caller}
 use Rattle.hsm_core.specs.Store.{Store}
 use Rattle.hsm_system.specs.declared.stops.Stop.{Stop}
 use Rattle.marked_history.specs.Follows.{IsMadeBy, IsStepOf, IsOfSettling}
-use Rattle.hsm_replay.specs.Keeping.{IsMarked, Shows, Keeps, Ends, Moves}
+use Rattle.hsm_replay.specs.Keeping.{IsMarked, Shows, GrowsBy, Ends, Moves}
 use Rattle.marked_history.specs.Marks.{Mark}
 use Rattle.hsm_system.specs.Events.{Runs}
 use Rattle.hsm_types.specs.Callers.{IsCallerNumber}
 use Rattle.hsm_replay.specs.Systems.{Run, running}
 use Rattle.hsm_replay.proofs.ByRunning.{by_running_then}
 use Rattle.hsm_replay.proofs.Events.{IsEventOf}
-use Rattle.hsm_system.proofs.Going.{goes_itself, goes_then, stopped_then}
+use Rattle.hsm_system.proofs.AfterEvents.{goes_itself, goes_then, stopped_then}
 use Rattle.hsm_replay.proofs.Growing.{have_grown_itself, have_grown_on}
 use Rattle.marked_history.proofs.Lists.{all_weaker, all_then}
 use Rattle.hsm_replay.proofs.Living.{live_itself, live_then, live_until}
@@ -38,16 +38,16 @@ module _ {D M : Type 0} (g : disk.Ghosts D) (h : drive.Ghosts M) where
   abbrev pub Settles : List Mark → Type 0
   Settles marks = AllByRecursion IsOfSettling marks
 
-  pub keeps_itself : {P : Mark → Type 0} (s : Run D M) → Keeps h (AllByRecursion P) s s
+  pub keeps_itself : {P : Mark → Type 0} (s : Run D M) → GrowsBy h (AllByRecursion P) s s
   keeps_itself s opened marks shows = ([], tt, subst (λ (ms : List Mark). Shows h opened ms s) (sym (append-nil marks)) shows, tt, live_itself s marks)
 
-  pub keeps_then : {P : Mark → Type 0} (a b c : Run D M) → running b ≡ running a → Keeps h (AllByRecursion P) a b → Keeps h (AllByRecursion P) b c → Keeps h (AllByRecursion P) a c
+  pub keeps_then : {P : Mark → Type 0} (a b c : Run D M) → running b ≡ running a → GrowsBy h (AllByRecursion P) a b → GrowsBy h (AllByRecursion P) b c → GrowsBy h (AllByRecursion P) a c
   keeps_then {P = P} a b c same first then opened marks shows =
       let one = first opened marks shows in
       let two = then opened (marks ++ one.0) one.2 in
       (one.0 ++ two.0, all_then P one.0 two.0 one.1 two.1, subst (λ (ms : List Mark). Shows h opened ms c) (append_assoc marks one.0 two.0) two.2, by_running_then (running a) (running b) one.0 two.0 same one.3 two.3, live_then a b c marks one.0 two.0 same one.4 two.4)
 
-  pub ends_then : {P : Mark → Type 0} (a b c : Run D M) → running b ≡ running a → Keeps h (AllByRecursion P) a b → Ends h (AllByRecursion P) b c → Ends h (AllByRecursion P) a c
+  pub ends_then : {P : Mark → Type 0} (a b c : Run D M) → running b ≡ running a → GrowsBy h (AllByRecursion P) a b → Ends h (AllByRecursion P) b c → Ends h (AllByRecursion P) a c
   ends_then {P = P} a b c same first then opened marks shows =
       let one = first opened marks shows in
       let two = then opened (marks ++ one.0) one.2 in

@@ -6,12 +6,12 @@ mod PartsRun
 pub mod Deeds
 mod DeedSteps
 mod DeedRounds
-mod GoingOn
+mod ReadyCallers
 mod Between
 mod OnDrives
 mod HandedIn
 mod Stepped
-mod Moving
+mod ActSteps
 mod Committing
 pub mod Growing
 mod Fetching
@@ -21,7 +21,7 @@ pub mod PassMarks
 mod Passing
 mod PassCopies
 mod Marked
-mod Coming
+mod SessionCalls
 mod RecallShown
 mod MigrateShown
 mod OneWay

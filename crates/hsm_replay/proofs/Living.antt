@@ -35,13 +35,13 @@ use Rattle.hsm_replay.specs.Faults.{faults_in}
 use Rattle.hsm_replay.specs.Keeping.{IsKnownAs, IsShownAs, IsAtStart, IsHeardOf, RecallKnows, MigrateKnows, HearsLast, RecallLives, MigrateLives}
 use Rattle.hsm_replay.specs.Keeping.{LivesIf, Live, LiveOn, LiveUntil, LiveThrough, Shows}
 use Rattle.hsm_replay.specs.Systems.{Run, running, started, killed, told_next}
-use Rattle.hsm_replay.proofs.Coming.{IsNoCall}
+use Rattle.hsm_replay.proofs.SessionCalls.{IsNoCall}
 use Rattle.hsm_replay.proofs.Marked.{shown_more}
 use Rattle.hsm_replay.proofs.MigrateShown as migrate_shown
 use Rattle.hsm_replay.proofs.OneWay.{IsOneWay, shown_one_way}
 use Rattle.hsm_replay.proofs.RecallShown as recall_shown
 use Rattle.hsm_replay.proofs.RightCalls.{called_then, none_begins, no_call_begins, call_begins, begins_then, hears_now, hears_more}
-use Rattle.hsm_replay.proofs.Moving.{recall_left, migrate_left}
+use Rattle.hsm_replay.proofs.ActSteps.{recall_left, migrate_left}
 
 -- ---- where it begins anew
 
@@ -118,7 +118,7 @@ module _ (limits : Numbers) (called : Running) (marks : List Mark) (r : Recallin
   recall_known true has = inr (lives.knows has)
 
   module _ (machine : recaller.Machine) where
-    module _ (sid : Sid) (asked : DmCall) (goes : recaller.GoesOn r.machine (told_next r.next) (Dm sid asked) machine) where
+    module _ (sid : Sid) (asked : DmCall) (goes : recaller.StepsOn r.machine (told_next r.next) (Dm sid asked) machine) where
       recall_first : called.recall ≡ false → asked ≡ GetAllSessions
       recall_first new = let begins = recall_shown.begins_at_once recall_now r.machine.asked (told_next r.next) sid asked (recall_no_seat new) goes.may in begins.0
 
@@ -147,7 +147,7 @@ module _ (limits : Numbers) (called : Running) (marks : List Mark) (r : Recallin
         outside = λ needs. ap (λ (k : recall.Known). k.seat.sid) goes.known ∙ recall_outside asked goes.may (subst NeedsNone goes.asked needs);
       }
 
-    pub recall_lives_still : (act : Act) (told : Heard) → IsNoCall act → recaller.GoesOn r.machine (told_next r.next) act machine → RecallLives marks recall_history called.recall (record { machine = machine; next = Hears told })
+    pub recall_lives_still : (act : Act) (told : Heard) → IsNoCall act → recaller.StepsOn r.machine (told_next r.next) act machine → RecallLives marks recall_history called.recall (record { machine = machine; next = Hears told })
     recall_lives_still act told no_call goes = record {
       starts = λ new. absurd (recall_shown.no_rest recall_now r.machine.asked (told_next r.next) act no_call (lives.starts new).0.1 (ap (λ (k : recall.Known). k.hand) (recall_begun new) ∙ (lives.starts new).1) goes.may);
       knows = λ has. subst (λ (k : recall.Known). IsKnownAs k recall_history) (sym (ap₂ (λ (k : recall.Known) (a : Act). recall.knows_by k a told) goes.known goes.asked))
@@ -203,7 +203,7 @@ module _ (limits : Numbers) (called : Running) (marks : List Mark) (m : Migratin
   migrate_known true has = inr (lives.knows has)
 
   module _ (machine : migrator.Machine) where
-    module _ (sid : Sid) (asked : DmCall) (goes : migrator.GoesOn m.machine (told_next m.next) (Dm sid asked) machine) where
+    module _ (sid : Sid) (asked : DmCall) (goes : migrator.StepsOn m.machine (told_next m.next) (Dm sid asked) machine) where
       abbrev MigrateGives : DmCall → Type 0
       MigrateGives c = migrator.MayGive m.machine.limits migrate_now m.machine.pass machine.pass m.machine.asked (told_next m.next) (Dm sid c)
 
@@ -234,7 +234,7 @@ module _ (limits : Numbers) (called : Running) (marks : List Mark) (m : Migratin
         outside = λ needs. ap (λ (k : migrate.Known). k.seat.sid) goes.known ∙ migrate_outside asked goes.may (subst NeedsNone goes.asked needs);
       }
 
-    pub migrate_lives_still : (act : Act) (told : Heard) → IsNoCall act → migrator.GoesOn m.machine (told_next m.next) act machine → MigrateLives marks migrate_history called.migrate (record { machine = machine; next = Hears told })
+    pub migrate_lives_still : (act : Act) (told : Heard) → IsNoCall act → migrator.StepsOn m.machine (told_next m.next) act machine → MigrateLives marks migrate_history called.migrate (record { machine = machine; next = Hears told })
     migrate_lives_still act told no_call goes = record {
       starts = λ new. absurd (migrate_shown.no_rest m.machine.limits migrate_now m.machine.pass machine.pass m.machine.asked (told_next m.next) act no_call (lives.starts new).1 (migrate_no_seat new) goes.may);
       knows = λ has. subst (λ (k : migrate.Known). IsShownAs k migrate_history) (sym (ap₂ (λ (k : migrate.Known) (a : Act). migrate.knows_by machine.limits k a told) goes.known goes.asked))
@@ -312,10 +312,10 @@ module _ {D M : Type 0} where
     heard_about : IsHeardOf h old.drives (faults_in old.system.store.history) r.machine.asked (told_next r.next)
     heard_about = let knows = subst (λ (o : Option Recalling). IfSome o (RecallKnows h (shown old.system.limits nothing_shown marks).recall old.drives (faults_in old.system.store.history))) goes_on shows.recall in knows.heard
 
-    pub recall_calls_until : (sid : Sid) (asked : DmCall) (answer : DmReply) → recaller.GoesOn r.machine (told_next r.next) (Dm sid asked) machine → LiveUntil old marks (made Recall sid asked answer ∷ [])
+    pub recall_calls_until : (sid : Sid) (asked : DmCall) (answer : DmReply) → recaller.StepsOn r.machine (told_next r.next) (Dm sid asked) machine → LiveUntil old marks (made Recall sid asked answer ∷ [])
     recall_calls_until sid asked answer goes limits called live = call_begins limits called marks Recall sid asked answer (recall_right limits called marks r (recall_of limits called live) machine sid asked goes)
 
-    pub recall_calls_live : (sid : Sid) (asked : DmCall) (answer : DmReply) → recaller.GoesOn r.machine (told_next r.next) (Dm sid asked) machine → (store : Store D) → LiveOn old (recall_left old machine (heard.Dm answer) store old.drives) marks (made Recall sid asked answer ∷ [])
+    pub recall_calls_live : (sid : Sid) (asked : DmCall) (answer : DmReply) → recaller.StepsOn r.machine (told_next r.next) (Dm sid asked) machine → (store : Store D) → LiveOn old (recall_left old machine (heard.Dm answer) store old.drives) marks (made Recall sid asked answer ∷ [])
     recall_calls_live sid asked answer goes store limits called live = (
       λ same. record {
         recall = recall_lives_on limits called marks r (recall_of limits called live) machine sid asked goes h old.drives (faults_in old.system.store.history) heard_about answer;
@@ -324,17 +324,17 @@ module _ {D M : Type 0} where
       recall_calls_until sid asked answer goes limits called live,
     )
 
-    pub recall_went_live : (act : Act) (told : Heard) → IsNoCall act → recaller.GoesOn r.machine (told_next r.next) act machine → (drives : List M) → LiveOn old (recall_left old machine told old.system.store drives) marks []
+    pub recall_went_live : (act : Act) (told : Heard) → IsNoCall act → recaller.StepsOn r.machine (told_next r.next) act machine → (drives : List M) → LiveOn old (recall_left old machine told old.system.store drives) marks []
     recall_went_live act told no_call goes drives = live_still old (recall_left old machine told old.system.store drives) marks (λ limits called same live. record { recall = recall_lives_still limits called marks r (recall_of limits called live) machine act told no_call goes; migrate = live.migrate })
 
   module _ (marks : List Mark) (old : Run D M) (m : Migrating) (machine : migrator.Machine) (goes_on : old.system.migrate ≡ Some m) where
     migrate_of : (limits : Numbers) (called : Running) → Live limits called marks old → MigrateLives marks (shown limits nothing_shown marks).migrate called.migrate m
     migrate_of limits called live = subst (λ (o : Option Migrating). LivesIf (MigrateLives marks (shown limits nothing_shown marks).migrate) called.migrate o) goes_on live.migrate
 
-    pub migrate_calls_until : (sid : Sid) (asked : DmCall) (answer : DmReply) → migrator.GoesOn m.machine (told_next m.next) (Dm sid asked) machine → LiveUntil old marks (made Migrate sid asked answer ∷ [])
+    pub migrate_calls_until : (sid : Sid) (asked : DmCall) (answer : DmReply) → migrator.StepsOn m.machine (told_next m.next) (Dm sid asked) machine → LiveUntil old marks (made Migrate sid asked answer ∷ [])
     migrate_calls_until sid asked answer goes limits called live = call_begins limits called marks Migrate sid asked answer (migrate_right limits called marks m (migrate_of limits called live) machine sid asked goes)
 
-    pub migrate_calls_live : (sid : Sid) (asked : DmCall) (answer : DmReply) → migrator.GoesOn m.machine (told_next m.next) (Dm sid asked) machine → (store : Store D) → LiveOn old (migrate_left old machine (heard.Dm answer) store old.drives) marks (made Migrate sid asked answer ∷ [])
+    pub migrate_calls_live : (sid : Sid) (asked : DmCall) (answer : DmReply) → migrator.StepsOn m.machine (told_next m.next) (Dm sid asked) machine → (store : Store D) → LiveOn old (migrate_left old machine (heard.Dm answer) store old.drives) marks (made Migrate sid asked answer ∷ [])
     migrate_calls_live sid asked answer goes store limits called live = (
       λ same. record {
         recall = recall_by_other limits called.recall marks (made Migrate sid asked answer) (other_daemon Migrate Recall (λ is. cc is)) refl old.system.recall live.recall;
@@ -343,7 +343,7 @@ module _ {D M : Type 0} where
       migrate_calls_until sid asked answer goes limits called live,
     )
 
-    pub migrate_went_live : (act : Act) (told : Heard) → IsNoCall act → migrator.GoesOn m.machine (told_next m.next) act machine → (drives : List M) → LiveOn old (migrate_left old machine told old.system.store drives) marks []
+    pub migrate_went_live : (act : Act) (told : Heard) → IsNoCall act → migrator.StepsOn m.machine (told_next m.next) act machine → (drives : List M) → LiveOn old (migrate_left old machine told old.system.store drives) marks []
     migrate_went_live act told no_call goes drives = live_still old (migrate_left old machine told old.system.store drives) marks (λ limits called same live. record { recall = live.recall; migrate = migrate_lives_still limits called marks m (migrate_of limits called live) machine act told no_call goes })
 
   -- ---- a mark of no daemon

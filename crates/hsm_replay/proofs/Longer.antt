@@ -10,7 +10,7 @@ use Rattle.daemon_session.specs.declared.events.Kept.{Kept}
 use Rattle.hsm_core.specs.Store.{state_of}
 use Rattle.hsm_policy.specs.Settings.{Numbers}
 use Rattle.hsm_system.specs.Running.{Recalling, Migrating}
-use Rattle.hsm_replay.specs.Settled.{IsTurn, NoneDue, RecallRests, MigrateRests, IsTurnOf, IsHeldUp, AreHeldUp}
+use Rattle.hsm_replay.specs.Settled.{IsTurn, NoneDue, RecallEndedTurn, MigrateEndedTurn, IsTurnOf, IsStillRefused, AreStillRefused}
 use Rattle.hsm_replay.specs.Systems.{Run}
 use Rattle.hsm_replay.specs.Turns.{IsOver, LeavesHeldUp}
 use Rattle.marked_history.proofs.Lists.{all_weaker}
@@ -24,27 +24,27 @@ module _ (first entries : List Entry) where
   due_longer limits fresh (inl used) = inl used
   due_longer limits fresh (inr told) = inr (told.0, (told.1.0, Contains-append_right first entries _ told.1.1), told.2)
 
-  held_up_longer : (rights : Rights) (seat : Seat) → AreHeldUp entries rights seat → AreHeldUp (first ++ entries) rights seat
-  held_up_longer rights seat = all_weaker (λ (k : Kept). IsHeldUp entries rights seat k.event.token) (λ (k : Kept). IsHeldUp (first ++ entries) rights seat k.event.token) seat.kept
+  held_up_longer : (rights : Rights) (seat : Seat) → AreStillRefused entries rights seat → AreStillRefused (first ++ entries) rights seat
+  held_up_longer rights seat = all_weaker (λ (k : Kept). IsStillRefused entries rights seat k.event.token) (λ (k : Kept). IsStillRefused (first ++ entries) rights seat k.event.token) seat.kept
       (λ k up. record { sid = up.sid; handle = up.handle; holder = up.holder; session = up.session; told = up.told; refused = Contains-append_right first entries _ up.refused; holds = up.holds })
 
   module _ {D M : Type 0} where
     turn_of_longer : (daemon : Daemon) (s : Run D M) → IsTurnOf daemon s entries → IsTurnOf daemon s (first ++ entries)
     turn_of_longer Recall s is = longer s.system.recall is
       where
-        longer : (o : Option Recalling) → IfSome o (λ (r : Recalling). RecallRests entries r.machine) → IfSome o (λ (r : Recalling). RecallRests (first ++ entries) r.machine)
+        longer : (o : Option Recalling) → IfSome o (λ (r : Recalling). RecallEndedTurn entries r.machine) → IfSome o (λ (r : Recalling). RecallEndedTurn (first ++ entries) r.machine)
         longer None rests = tt
         longer (Some r) rests = record { rests = rests.rests; turn = turn_longer r.machine.known.seat rests.turn }
     turn_of_longer Migrate s is = longer s.system.migrate is
       where
-        longer : (o : Option Migrating) → IfSome o (λ (m : Migrating). MigrateRests s.system.limits entries m.machine) → IfSome o (λ (m : Migrating). MigrateRests s.system.limits (first ++ entries) m.machine)
+        longer : (o : Option Migrating) → IfSome o (λ (m : Migrating). MigrateEndedTurn s.system.limits entries m.machine) → IfSome o (λ (m : Migrating). MigrateEndedTurn s.system.limits (first ++ entries) m.machine)
         longer None rests = tt
         longer (Some m) rests = record { rests = rests.rests; turn = turn_longer m.machine.known.seat rests.turn; none = rests.none; none_due = λ sid seated. due_longer s.system.limits m.machine.known.fresh (rests.none_due sid seated) }
 
     leaves_longer : (daemon : Daemon) (s : Run D M) → LeavesHeldUp daemon entries s → LeavesHeldUp daemon (first ++ entries) s
     leaves_longer Recall s is = longer s.system.recall is
       where
-        longer : (o : Option Recalling) → IfSome o (λ (r : Recalling). AreHeldUp entries (state_of s.system.store).rights r.machine.known.seat) → IfSome o (λ (r : Recalling). AreHeldUp (first ++ entries) (state_of s.system.store).rights r.machine.known.seat)
+        longer : (o : Option Recalling) → IfSome o (λ (r : Recalling). AreStillRefused entries (state_of s.system.store).rights r.machine.known.seat) → IfSome o (λ (r : Recalling). AreStillRefused (first ++ entries) (state_of s.system.store).rights r.machine.known.seat)
         longer None up = tt
         longer (Some r) up = held_up_longer (state_of s.system.store).rights r.machine.known.seat up
     leaves_longer Migrate s is = tt

@@ -20,7 +20,7 @@ use Rattle.hsm_policy.specs.declared.picking.Picked.{Picked}
 use Rattle.daemon_session.specs.Members.{IsRefusedOne}
 use Rattle.daemon_session.specs.Seats.{Seat, no_seat, all_marked, seat_asks, seat_hears, IsSeated}
 use Rattle.migrate_daemon.specs.Known.{Known, is_due, asks, hears, asks_by, knows_by}
-use Rattle.migrate_daemon.specs.Machine.{Machine, GoesOn, IsServed, NoneServed, WantsSpace, HasAll, answer_of, MaySeal, MayGive}
+use Rattle.migrate_daemon.specs.Machine.{Machine, StepsOn, CameBeforePass, NoneServed, WantsSpace, HasAll, answer_of, MaySeal, MayGive}
 use Rattle.migrate_daemon.specs.Passes.{Pass, IsOver, copies}
 use Rattle.hsm_system.specs.Running.{Migrating}
 use Rattle.hsm_system.specs.declared.daemons.Next.TheVariants.{Hears}
@@ -28,7 +28,7 @@ use Rattle.hsm_replay.specs.Systems.{told_next}
 use Rattle.hsm_replay.specs.Keeping.{IsShownAs, IsAtStart, MigrateKnows}
 use Rattle.hsm_replay.specs.Sealed.{IsStored, HearsStored}
 use Rattle.marked_history.specs.Served.{MayCome, MigrateMay}
-use Rattle.hsm_replay.proofs.Coming.{IsNoCall, IsBegin, may_come, unseated, only_begins}
+use Rattle.hsm_replay.proofs.SessionCalls.{IsNoCall, IsBegin, may_come, unseated, only_begins}
 
 -- ---- what is known
 
@@ -72,7 +72,7 @@ may_call limits k l old new asked told sid GetSpace same may = seated_as k.seat 
 may_call limits k l old new asked told sid GetTable same may = (seated_as k.seat l.seat sid same.seat may.0.seated, subst (λ (s : Seat). NoneServed s.kept) same.seat may.0.answered)
 may_call limits k l old new asked told sid (GetEvents most room) same may = (seated_as k.seat l.seat sid same.seat may.0.seated, may.1, may.2)
 may_call limits k l old new asked told sid (Respond t response) same may =
-    (seated_as k.seat l.seat sid same.seat may.0, subst (λ (s : Seat). IsServed s.kept t) same.seat may.2, may.3 ∙ ap answer_of same.punched)
+    (seated_as k.seat l.seat sid same.seat may.0, subst (λ (s : Seat). CameBeforePass s.kept t) same.seat may.2, may.3 ∙ ap answer_of same.punched)
 may_call limits k l old new asked told sid call same may = come_as k.seat l.seat sid call same.seat (may_come Migrate k.seat asked told sid call may)
 
 -- ---- at its start
@@ -130,19 +130,19 @@ module _ (k : Known) (m : Migrating) (machine : Machine) (shows : MigrateKnows k
   no_seat_yet : Starts m → (now m).seat ≡ no_seat
   no_seat_yet start = ap (λ (x : Known). x.seat) (starts m.machine.limits m.machine.known m.machine.asked (told_next m.next) start.1) ∙ start.0
 
-  begins_only : (sid : Sid) (asked : DmCall) → Starts m → GoesOn m.machine (told_next m.next) (Dm sid asked) machine → IsBegin sid asked
+  begins_only : (sid : Sid) (asked : DmCall) → Starts m → StepsOn m.machine (told_next m.next) (Dm sid asked) machine → IsBegin sid asked
   begins_only sid asked start goes = begins_at_once m.machine.limits (now m) m.machine.pass machine.pass m.machine.asked (told_next m.next) sid asked (no_seat_yet start) goes.may
 
-  knows_now : (act : Act) (told : Heard) → GoesOn m.machine (told_next m.next) act machine → knows_by machine.limits machine.known machine.asked told ≡ knows_by machine.limits (asks_by (now m) act) act told
+  knows_now : (act : Act) (told : Heard) → StepsOn m.machine (told_next m.next) act machine → knows_by machine.limits machine.known machine.asked told ≡ knows_by machine.limits (asks_by (now m) act) act told
   knows_now act told goes = ap₂ (λ (x : Known) (a : Act). knows_by machine.limits x a told) goes.known goes.asked
 
-  pub migrate_may : (sid : Sid) (asked : DmCall) → GoesOn m.machine (told_next m.next) (Dm sid asked) machine → MigrateMay k sid asked
+  pub migrate_may : (sid : Sid) (asked : DmCall) → StepsOn m.machine (told_next m.next) (Dm sid asked) machine → MigrateMay k sid asked
   migrate_may sid asked goes = ⊎_elim
       (λ (start : Starts m). let only = begins_only sid asked start goes in subst (λ (c : DmCall). MigrateMay k sid c) (sym only.0) only.1)
       (λ (same : IsShownAs (now m) k). may_call m.machine.limits (now m) k m.machine.pass machine.pass m.machine.asked (told_next m.next) sid asked same goes.may)
       shows
 
-  pub migrate_told : (limits : Numbers) (sid : Sid) (asked : DmCall) (answer : DmReply) → GoesOn m.machine (told_next m.next) (Dm sid asked) machine
+  pub migrate_told : (limits : Numbers) (sid : Sid) (asked : DmCall) (answer : DmReply) → StepsOn m.machine (told_next m.next) (Dm sid asked) machine
       → IsShownAs (knows_by machine.limits machine.known machine.asked (heard.Dm answer)) (hears limits (asks k asked) asked answer)
   migrate_told limits sid asked answer goes =
       let as_asked : IsShownAs (asks (now m) asked) (asks k asked) = ⊎_elim (λ (start : Starts m). begins (now m) k asked (begins_only sid asked start goes).0) (λ (same : IsShownAs (now m) k). asks_same (now m) k asked same) shows in
@@ -150,10 +150,10 @@ module _ (k : Known) (m : Migrating) (machine : Machine) (shows : MigrateKnows k
       (hears_same machine.limits limits (asks (now m) asked) (asks k asked) asked answer as_asked)
 
   -- it seals with what it heard of its copy
-  pub migrate_seals : {M : Type 0} (g : drive.Ghosts M) (drives : List M) → HearsStored g drives m.machine.asked (told_next m.next) → (sid : Sid) (t : Token) (h : Handle) (segment : ℕ) (entry : StubEntry) → GoesOn m.machine (told_next m.next) (Dm sid (Seal t h segment entry)) machine → IsStored g drives entry
+  pub migrate_seals : {M : Type 0} (g : drive.Ghosts M) (drives : List M) → HearsStored g drives m.machine.asked (told_next m.next) → (sid : Sid) (t : Token) (h : Handle) (segment : ℕ) (entry : StubEntry) → StepsOn m.machine (told_next m.next) (Dm sid (Seal t h segment entry)) machine → IsStored g drives entry
   migrate_seals g drives hears sid t h segment entry goes = let may = goes.may.2 in sealed_as g drives m.machine.limits.volumes machine.pass.sid goes.may.0 entry m.machine.asked (told_next m.next) hears may.2
 
-  pub migrate_rests : (act : Act) (told : Heard) → IsNoCall act → GoesOn m.machine (told_next m.next) act machine → MigrateKnows k (record { machine = machine; next = Hears told })
+  pub migrate_rests : (act : Act) (told : Heard) → IsNoCall act → StepsOn m.machine (told_next m.next) act machine → MigrateKnows k (record { machine = machine; next = Hears told })
   migrate_rests act told no_call goes = ⊎_elim
       (λ (start : Starts m). absurd (no_rest m.machine.limits (now m) m.machine.pass machine.pass m.machine.asked (told_next m.next) act no_call start.1 (no_seat_yet start) goes.may))
       (λ (same : IsShownAs (now m) k). inr (subst (λ (x : Known). IsShownAs x k) (sym (knows_now act told goes)) (as_shown (knows_by machine.limits (asks_by (now m) act) act told) (now m) k (rests machine.limits (now m) act told no_call) same)))

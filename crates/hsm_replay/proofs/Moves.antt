@@ -29,7 +29,7 @@ use Rattle.hsm_system.specs.Acts.{Serves, StopsCall, KeepsStop}
 use Rattle.hsm_system.specs.Stops.{reply_of}
 use Rattle.hsm_system.specs.Systems.{System, hearing}
 use Rattle.hsm_system.proofs.Done.{session_stop}
-use Rattle.hsm_system.proofs.Going.{goes_itself, event_goes, stopped_for}
+use Rattle.hsm_system.proofs.AfterEvents.{goes_itself, event_goes, stopped_for}
 use Rattle.hsm_replay.specs.Acts.{Performs, Stops, FetchesFrom, CopiesTo}
 use Rattle.hsm_replay.specs.Drives.{HasGrown, HaveGrown}
 use Rattle.marked_history.specs.Follows.{IsStepOf}
@@ -48,8 +48,8 @@ use Rattle.hsm_replay.proofs.Growing.{have_grown_itself, grown_at, reads_grow, g
 use Rattle.hsm_replay.proofs.Living.{live_itself, none_until, recall_calls_live, recall_calls_until, recall_went_live, migrate_calls_live}
 use Rattle.hsm_replay.proofs.Living.{migrate_calls_until, migrate_went_live}
 use Rattle.hsm_replay.proofs.Marked.{marked_still}
-use Rattle.hsm_replay.proofs.Moving.{recall_waits, migrate_waits, recall_left, migrate_left, recall_acts, migrate_acts, recall_stops, migrate_stops}
-use Rattle.hsm_replay.proofs.Moving.{recall_behind_call, recall_behind_fetch, recall_behind_stop, migrate_behind_call, migrate_behind_copy, migrate_behind_stop}
+use Rattle.hsm_replay.proofs.ActSteps.{recall_waits, migrate_waits, recall_left, migrate_left, recall_acts, migrate_acts, recall_stops, migrate_stops}
+use Rattle.hsm_replay.proofs.ActSteps.{recall_behind_call, recall_behind_fetch, recall_behind_stop, migrate_behind_call, migrate_behind_copy, migrate_behind_stop}
 use Rattle.hsm_replay.proofs.Sealing.{heard_of_missing, heard_of_copy}
 use Rattle.hsm_replay.proofs.Stepping.{recall_marked, recall_called, recall_went, migrate_marked, migrate_called, migrate_went}
 
@@ -82,7 +82,7 @@ module _ {D M : Type 0} (g : disk.Ghosts D) (h : drive.Ghosts M) where
   -- ---- recall
 
   module _ (old : Run D M) (r : Recalling) (machine : recaller.Machine) (runs : old.system.recall ≡ Some r) (new : Run D M) where
-    recall_by : (act : Act) → recaller.GoesOn r.machine (told_next r.next) act machine → Performs g h Recall (recall_waits old machine act) act new → Moved Recall old new
+    recall_by : (act : Act) → recaller.StepsOn r.machine (told_next r.next) act machine → Performs g h Recall (recall_waits old machine act) act new → Moved Recall old new
     recall_by (Dm sid asked) goes performs =
         let reply : DmReply = performs.0.0 in
         let left : System D = performs.0.1 in
@@ -119,7 +119,7 @@ module _ {D M : Type 0} (g : disk.Ghosts D) (h : drive.Ghosts M) where
   -- ---- migration
 
   module _ (old : Run D M) (m : Migrating) (machine : migrator.Machine) (runs : old.system.migrate ≡ Some m) (new : Run D M) (law : h.sure ≡ true → (d : M) → h.fault_count d ≡ 0) where
-    migrate_by : (act : Act) → migrator.GoesOn m.machine (told_next m.next) act machine → Performs g h Migrate (migrate_waits old machine act) act new → Moved Migrate old new
+    migrate_by : (act : Act) → migrator.StepsOn m.machine (told_next m.next) act machine → Performs g h Migrate (migrate_waits old machine act) act new → Moved Migrate old new
     migrate_by (Dm sid asked) goes performs =
         let reply : DmReply = performs.0.0 in
         let left : System D = performs.0.1 in
@@ -188,7 +188,7 @@ module _ {D M : Type 0} (g : disk.Ghosts D) (h : drive.Ghosts M) where
     ends = λ opened marks shows. no_more (IsStepOf daemon) opened marks old new shows limits (ap (λ (s : Store D). s.history) store) grown;
   }
 
-  recall_stopped : (old new : Run D M) (r : Recalling) (machine : recaller.Machine) (runs : old.system.recall ≡ Some r) (why : Stop) (act : Act) → recaller.GoesOn r.machine (told_next r.next) act machine → Stops g h Recall (recall_waits old machine act) act why new → Stopped Recall why old new
+  recall_stopped : (old new : Run D M) (r : Recalling) (machine : recaller.Machine) (runs : old.system.recall ≡ Some r) (why : Stop) (act : Act) → recaller.StepsOn r.machine (told_next r.next) act machine → Stops g h Recall (recall_waits old machine act) act why new → Stopped Recall why old new
   recall_stopped old new r machine runs why (Dm sid asked) goes stops =
       let left : System D = stops.0.0 in
       let call = stops.0.1 in
@@ -214,7 +214,7 @@ module _ {D M : Type 0} (g : disk.Ghosts D) (h : drive.Ghosts M) where
       (subst (λ (ds : List M). HaveGrown h old.drives ds) (sym on.4) (grown_at h (drive_of (entry_place entry).volume old.drives) old.drives on.0 on.1 on.2 (fetched_grown h entry (Err fetching.Memory) on.0 on.1 on.3)))
   recall_stopped old new r machine runs why Idle goes stops = absurd stops
 
-  migrate_stopped : (old new : Run D M) (m : Migrating) (machine : migrator.Machine) (runs : old.system.migrate ≡ Some m) (why : Stop) (act : Act) → migrator.GoesOn m.machine (told_next m.next) act machine → Stops g h Migrate (migrate_waits old machine act) act why new → Stopped Migrate why old new
+  migrate_stopped : (old new : Run D M) (m : Migrating) (machine : migrator.Machine) (runs : old.system.migrate ≡ Some m) (why : Stop) (act : Act) → migrator.StepsOn m.machine (told_next m.next) act machine → Stops g h Migrate (migrate_waits old machine act) act why new → Stopped Migrate why old new
   migrate_stopped old new m machine runs why (Dm sid asked) goes stops =
       let left : System D = stops.0.0 in
       let call = stops.0.1 in

@@ -15,7 +15,7 @@ use Rattle.hsm_types.specs.declared.keys.Sid.{Sid}
 use Rattle.hsm_policy.specs.Settings.{Numbers}
 use Rattle.daemon_session.specs.Seats.{Seat, seat_asks, seat_hears, told_info}
 use Rattle.recall_daemon.proofs.Outcomes.{but_kept}
-use Rattle.marked_history.specs.Marks.{Mark, Exchange, exchange_in}
+use Rattle.marked_history.specs.Marks.{Mark, AnsweredCall, answered_call_in}
 use Rattle.marked_history.specs.Served.{Shown, nothing_shown, with_exchange, with_entry, learned, shown}
 use Rattle.marked_history.specs.Tokens.{seat_of}
 use Rattle.marked_history.proofs.Seating.{seat_by}
@@ -51,7 +51,7 @@ module _ (d : Daemon) (s : Seat) (is : IsOneWay s) where
   seat_way (call.Respond t response) (reply.Refused (why.NotYours owner)) = is
   seat_way c a = is
 
-exchange_way : (limits : Numbers) (d : Daemon) (k : Shown) (x : Exchange) → IsOneWay (seat_of d k) → IsOneWay (seat_of d (with_exchange limits d x k))
+exchange_way : (limits : Numbers) (d : Daemon) (k : Shown) (x : AnsweredCall) → IsOneWay (seat_of d k) → IsOneWay (seat_of d (with_exchange limits d x k))
 exchange_way limits d k x is =
     seat_by IsOneWay limits d k x (but_kept IsOneWay x.call x.reply (seat_hears d (seat_asks (seat_of d k) x.call) x.call x.reply) (λ kept. seat_way d (seat_of d k) is x.call x.reply))
 
@@ -61,7 +61,7 @@ pub record AreOneWay (k : Shown) : Type 0 where
   pub recall : IsOneWay k.recall.seat
   pub migrate : IsOneWay k.migrate.seat
 
-learned_way : (limits : Numbers) (k : Shown) (by : Option Daemon) (x : Option Exchange) → AreOneWay k → AreOneWay (with_entry limits by x k)
+learned_way : (limits : Numbers) (k : Shown) (by : Option Daemon) (x : Option AnsweredCall) → AreOneWay k → AreOneWay (with_entry limits by x k)
 learned_way limits k (Some Recall) (Some x) are = record { recall = exchange_way limits Recall k x are.recall; migrate = are.migrate }
 learned_way limits k (Some Migrate) (Some x) are = record { recall = are.recall; migrate = exchange_way limits Migrate k x are.migrate }
 learned_way limits k (Some d) None are = are
@@ -69,7 +69,7 @@ learned_way limits k None x are = are
 
 shown_way : (limits : Numbers) (k : Shown) (marks : List Mark) → AreOneWay k → AreOneWay (shown limits k marks)
 shown_way limits k [] are = are
-shown_way limits k (m ∷ marks) are = shown_way limits (learned limits k m) marks (learned_way limits k m.by (exchange_in m.entry) are)
+shown_way limits k (m ∷ marks) are = shown_way limits (learned limits k m) marks (learned_way limits k m.by (answered_call_in m.entry) are)
 
 pub shown_one_way : (limits : Numbers) (marks : List Mark) → AreOneWay (shown limits nothing_shown marks)
 shown_one_way limits marks = shown_way limits nothing_shown marks (record { recall = inl refl; migrate = inl refl })

@@ -23,7 +23,7 @@ use Rattle.plain_model.specs.declared.entries.Answer.TheVariants as answer
 use Rattle.plain_model.specs.declared.entries.Entry.{Entry}
 use Rattle.script_text.specs.declared.lines.Line.{Line}
 use Rattle.script_text.specs.declared.lines.Line.TheVariants.{Event, Start, Kill, Step, Settle}
-use Rattle.deeds.specs.Deeds.{entry_of, Deed, Enters, Starts, Kills, Refreshes, Gives, Hears, call_told, entry_in, entries_of, Fits, IsServed}
+use Rattle.deeds.specs.Deeds.{entry_of, Deed, Enters, Starts, Kills, Refreshes, Gives, Hears, call_told, entry_in, entries_of, Fits, StopsNothing}
 use Rattle.deeds.specs.Given.{Given, given_of, given_behind}
 use Rattle.hsm_replay.specs.Parts.{Exchange, resting, done_by, IsStepFrom, IsWork, IsUpToRest, IsTurnFrom, IsTurnIf, resume_of, joined, are_quiet, IsRound}
 use Rattle.hsm_replay.specs.Parts.{AreBusy, IsSettle, IsPartOf, Follows, FollowsOn}
@@ -37,7 +37,7 @@ use Rattle.deeds.proofs.Living.{entries_then}
 module _ (quiet : Entry → Bool) (MayGoOn : List Entry → ℕ → Type 0) (P : Deed → Type 0)
     (acts : (daemon : Daemon) (asked : Act) (told : Heard) → Fits asked told → P (Gives daemon asked) × P (Hears daemon asked told))
     (refreshes : P Refreshes)
-    (resumes : (caller : ℕ) (told : Answer) → IsCallerNumber caller → IsServed told → P (resume_of (caller, told))) where
+    (resumes : (caller : ℕ) (told : Answer) → IsCallerNumber caller → StopsNothing told → P (resume_of (caller, told))) where
   done_all : (daemon : Daemon) (x : Exchange) → Fits x.asked x.told → All P (done_by daemon x)
   done_all daemon x fits =
       let both = acts daemon x.asked x.told fits in
@@ -64,7 +64,7 @@ module _ (quiet : Entry → Bool) (MayGoOn : List Entry → ℕ → Type 0) (P :
   turn_if_all false daemon given deeds is = subst (λ (ds : List Deed). All P ds) (sym is) (All-nil P)
 
   abbrev IsOne : ℕ × Answer → Type 0
-  IsOne x = IsServed x.1
+  IsOne x = StopsNothing x.1
 
   resumes_all : (told : List (ℕ × Answer)) → All IsCallerNumber (keys_of told) → All IsOne told → All P (map resume_of told)
   resumes_all [] all served = All-nil P
@@ -88,12 +88,12 @@ module _ (quiet : Entry → Bool) (MayGoOn : List Entry → ℕ → Type 0) (P :
       (round_all (given_behind (joined s.rounds) given) s.last s.round)))
 
 -- a call that is heard of is answered so that a run goes on
-reply_served : (reply : DmReply) → (reply ≢ Refused why.Disk) × (reply ≢ Refused why.Memory) → IsServed (answer.Dm reply)
+reply_served : (reply : DmReply) → (reply ≢ Refused why.Disk) × (reply ≢ Refused why.Memory) → StopsNothing (answer.Dm reply)
 reply_served (Refused why.Disk) fits = absurd (fits.0 refl)
 reply_served (Refused why.Memory) fits = absurd (fits.1 refl)
 reply_served reply fits = tt
 
-hears_whole : (asked : Act) (told : Heard) → Fits asked told → IfSome (call_told asked told) (λ (e : Entry). IsServed e.answer)
+hears_whole : (asked : Act) (told : Heard) → Fits asked told → IfSome (call_told asked told) (λ (e : Entry). StopsNothing e.answer)
 hears_whole (act.Dm sid call) (heard.Dm reply) fits = reply_served reply fits
 hears_whole asked told fits = tt
 
@@ -157,7 +157,7 @@ module _ (quiet : Entry → Bool) (MayGoOn : List Entry → ℕ → Type 0) wher
   -- Of deeds that follow lines P holds where it holds of those, and of events, starts and kills.
   module _ (P : Deed → Type 0)
       (acts : (daemon : Daemon) (asked : Act) (told : Heard) → Fits asked told → P (Gives daemon asked) × P (Hears daemon asked told))
-      (refreshes : P Refreshes) (enters : (e : Entry) → IsServed e.answer → P (Enters e)) (starts : (daemon : Daemon) → P (Starts daemon)) (kills : (daemon : Daemon) → P (Kills daemon)) where
+      (refreshes : P Refreshes) (enters : (e : Entry) → StopsNothing e.answer → P (Enters e)) (starts : (daemon : Daemon) → P (Starts daemon)) (kills : (daemon : Daemon) → P (Kills daemon)) where
     one_all : (deed : Deed) (deeds : List Deed) → deeds ≡ deed ∷ [] → P deed → All P deeds
     one_all deed deeds is so = subst (λ (ds : List Deed). All P ds) (sym is) (All-cons P deed [] so (All-nil P))
 

@@ -23,7 +23,7 @@ use Rattle.plain_model.specs.declared.entries.Actor.TheVariants.{Caller}
 use Rattle.plain_model.specs.declared.entries.Answer.{Answer}
 use Rattle.plain_model.specs.declared.entries.Entry.{Entry}
 use Rattle.script_text.specs.declared.lines.Line.{Line}
-use Rattle.deeds.specs.Deeds.{entry_of, Deed, Enters, Refreshes, Fits, IsServed}
+use Rattle.deeds.specs.Deeds.{entry_of, Deed, Enters, Refreshes, Fits, StopsNothing}
 use Rattle.deeds.specs.Given.{Given, asked_behind, given_behind}
 use Rattle.deeds.specs.Lives.{life}
 use Rattle.hsm_replay.specs.Parts.{Exchange, resting, done_by, IsStepFrom, IsWork, IsUpToRest}

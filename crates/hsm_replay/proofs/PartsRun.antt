@@ -15,7 +15,7 @@ use Rattle.plain_model.specs.declared.entries.Answer.{Answer}
 use Rattle.plain_model.specs.declared.entries.Entry.{Entry}
 use Rattle.script_text.specs.declared.lines.Line.{Line}
 use Rattle.script_text.specs.declared.lines.Line.TheVariants.{Event, Start, Kill, Step, Settle}
-use Rattle.deeds.specs.Deeds.{entry_of, Deed, Enters, Starts, Kills, Refreshes, Gives, Hears, Fits, IsServed}
+use Rattle.deeds.specs.Deeds.{entry_of, Deed, Enters, Starts, Kills, Refreshes, Gives, Hears, Fits, StopsNothing}
 use Rattle.deeds.specs.Given.{Given, given_of, asked_behind, given_behind}
 use Rattle.deeds.specs.Lives.{life}
 use Rattle.hsm_replay.specs.Parts.{resume_of, runs_by, runs_behind, IsPartOf, RunsByLines}
@@ -96,7 +96,7 @@ module _ (quiet : Entry → Bool) (MayGoOn : List Entry → ℕ → Type 0) (dae
   acts_steady : (by : Daemon) (act : Act) (told : Heard) → Fits act told → IsSteady daemon (Gives by act) × IsSteady daemon (Hears by act told)
   acts_steady by act told fits = (gives_steady daemon by act, hears_steady daemon by act told)
 
-  resumes_steady : (caller : ℕ) (told : Answer) → IsCallerNumber caller → IsServed told → IsSteady daemon (resume_of (caller, told))
+  resumes_steady : (caller : ℕ) (told : Answer) → IsCallerNumber caller → StopsNothing told → IsSteady daemon (resume_of (caller, told))
   resumes_steady caller told number served = enters_steady daemon (entry_of (Caller caller) Resume told)
 
   part_so : (given : Given) (line : Line) (deeds : List Deed) → IsPartOf quiet MayGoOn given line deeds → (last : Option Act) → runs_after daemon deeds last ≡ runs_by daemon line (is_some last)

@@ -21,7 +21,7 @@ use Rattle.plain_model.specs.declared.entries.Answer.TheVariants as answer
 use Rattle.migrate_daemon.specs.Machine.{IsOfPass}
 use Rattle.marked_history.specs.Lives.{IsLast, HasLostSession}
 use Rattle.marked_history.specs.Marks.{Mark, made}
-use Rattle.marked_history.specs.Passing.{IsOfPassBy, AreOfPass, table_told, IsBetween, IsBehindPass, GoesOn, IsPassOver, IsCoveredIn, read_call}
+use Rattle.marked_history.specs.Passing.{IsOfPassBy, AreOfPass, table_told, IsBetween, IsBehindPass, BeginsBehindPass, IsPassOver, IsCoveredIn, read_call}
 use Rattle.marked_history.specs.Passing.{IsReadAtLast, IsWithinPass, AllWithin, IsDoneIn, IsEndedIn, IsPassed, EachPassed, AllPassed}
 use Rattle.marked_history.proofs.Lists.{all_and, all_first, all_at, all_has, none_there, Place, place, both_none, Last, last_of}
 
@@ -181,8 +181,8 @@ module _ (C : Type 0) (limits : Numbers) (marks : List Mark) (m : Mark) (passed 
       → EachPassed C limits (marks ++ m ∷ [])
   each_passed_more behind refused before sid table during rest is of over = by (place marks m before (table_told sid table) (during ++ rest) is)
     where
-      goes_never : rest ≡ [] → GoesOn rest → ⊥
-      goes_never none goes = subst GoesOn none goes
+      goes_never : rest ≡ [] → BeginsBehindPass rest → ⊥
+      goes_never none goes = subst BeginsBehindPass none goes
 
       none_over : (during ≡ []) × (rest ≡ []) → IsPassOver during rest → ⊥
       none_over none (inl goes) = goes_never none.1 goes
@@ -192,12 +192,12 @@ module _ (C : Type 0) (limits : Numbers) (marks : List Mark) (m : Mark) (passed 
       ends more opens last (inl goes) = absurd (goes_never last.0 goes)
       ends more opens last (inr now) = subst (λ (l : List Mark). IsPassed C limits sid table l) (sym last.1) (refused before sid table more opens (subst AreOfPass last.1 of) (subst (HasLostSession Migrate) last.1 now))
 
-      on : (less : List Mark) → Opens marks before sid table (during ++ less) → GoesOn (less ++ m ∷ []) → IsPassed C limits sid table during
+      on : (less : List Mark) → Opens marks before sid table (during ++ less) → BeginsBehindPass (less ++ m ∷ []) → IsPassed C limits sid table during
       on [] opens goes = behind before sid table during (opens ∙ ap (λ (l : List Mark). before ++ table_told sid table ∷ l) (append-nil during)) of goes
       on (next ∷ less) opens goes = passed.over before sid table during (next ∷ less) opens of (inl goes)
 
       goes_or_refused : (less : List Mark) → rest ≡ less ++ m ∷ [] → Opens marks before sid table (during ++ less) → IsPassOver during rest → IsPassed C limits sid table during
-      goes_or_refused less is_rest opens (inl goes) = on less opens (subst GoesOn is_rest goes)
+      goes_or_refused less is_rest opens (inl goes) = on less opens (subst BeginsBehindPass is_rest goes)
       goes_or_refused less is_rest opens (inr last) = passed.over before sid table during less opens of (inr last)
 
       within : (more : List Mark) → Opens marks before sid table more → Last during rest more m → IsPassed C limits sid table during

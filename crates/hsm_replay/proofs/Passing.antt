@@ -30,7 +30,7 @@ use Rattle.hsm_policy.specs.declared.picking.Picked.{Picked}
 use Rattle.daemon_session.specs.Seats.{no_seat}
 use Rattle.migrate_daemon.specs.Known.{Known, knows_by}
 use Rattle.migrate_daemon.specs.Machine.{Machine, started, IsOfPass, ComesTo, Stays, IsCovered, MaySetRegions, MayRead, MaySeal, MayPunch}
-use Rattle.migrate_daemon.specs.Machine.{IsAt, MayGive, GoesOn as Goes}
+use Rattle.migrate_daemon.specs.Machine.{IsAt, MayGive, StepsOn as Goes}
 use Rattle.migrate_daemon.specs.Passes.{Exchange, Pass, Passed, begun_pass, IsCallOf, IsSeal, IsCopy, IsSkip, IsEnd, IsDone, EndsAt, IsOver}
 use Rattle.migrate_daemon.specs.Passes.{start_of, whole_file, sets_regions, reads, seals, punches, copies, told_since}
 use Rattle.migrate_daemon.specs.Shares.{share}
@@ -46,7 +46,7 @@ use Rattle.hsm_replay.specs.Systems.{told_next}
 use Rattle.hsm_replay.specs.Passes.{AreThere, EndsIn, IsPassOf, IsThere, IsReady, IsInPass, HasNotBegun, HearsTable, HearsCopy, IsOpened}
 use Rattle.hsm_replay.specs.Passes.{IsBetweenPasses, PassStands}
 use Rattle.deeds.specs.Lives.{untold}
-use Rattle.hsm_replay.proofs.Coming.{IsNoCall, IsBegin}
+use Rattle.hsm_replay.proofs.SessionCalls.{IsNoCall, IsBegin}
 use Rattle.marked_history.proofs.Lists.{all_and, none_in, stands_in}
 use Rattle.hsm_replay.proofs.MigrateShown.{begins_at_once, no_rest, starts}
 use Rattle.hsm_replay.proofs.PassMarks.{IsOther, IsOne, Opens, same_sid, same_call, same_answer, by_migration, of_first, last_of_pass, no_table}

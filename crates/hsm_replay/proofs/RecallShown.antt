@@ -36,13 +36,13 @@ use Rattle.recall_daemon.specs.Known.{Known, Hand, with_hand, with_kept, handlin
 use Rattle.recall_daemon.specs.Known.{hears, asks_by, knows_by, away_in, back_in, IsKept, IsInHand, IsNeeded, IsReady, IsLost, Holds, HasAll}
 use Rattle.recall_daemon.specs.Known.{ArePutOff, MayCall, MayGive}
 use Rattle.recall_daemon.specs.Known as recall
-use Rattle.recall_daemon.specs.Machine.{Machine, GoesOn}
+use Rattle.recall_daemon.specs.Machine.{Machine, StepsOn}
 use Rattle.recall_daemon.proofs.Outcomes.{Ends, failed_so, unrestored_so, unanswered_so}
 use Rattle.hsm_system.specs.Running.{Recalling}
 use Rattle.hsm_replay.specs.Systems.{told_next}
 use Rattle.hsm_replay.specs.Keeping.{unmarked, IsKnownAs, IsAtStart, IsHeardOf, RecallKnows}
-use Rattle.marked_history.specs.Served.{IsOf, IsReason, MayCome, RecallMay}
-use Rattle.hsm_replay.proofs.Coming.{IsNoCall, IsBegin, may_come, unseated, only_begins}
+use Rattle.marked_history.specs.Served.{IsOf, IsReasonTold, MayCome, RecallMay}
+use Rattle.hsm_replay.proofs.SessionCalls.{IsNoCall, IsBegin, may_come, unseated, only_begins}
 
 -- ---- events that are put off
 
@@ -229,7 +229,7 @@ ready_as kept shown hand same is = record {
   none = is.none;
 }
 
-reason_as : (kept shown : List Kept) (hand : Hand) (response : Response) → AreSame kept shown → IsReason kept hand response → IsReason shown hand response
+reason_as : (kept shown : List Kept) (hand : Hand) (response : Response) → AreSame kept shown → IsReasonTold kept hand response → IsReasonTold shown hand response
 reason_as kept shown hand Continue same is = ⊎_elim (λ (gone : hand.gone ≡ true). inl gone) (λ (ready : IsReady kept hand). inr (ready_as kept shown hand same ready)) is
 reason_as kept shown hand (Abort error) same is = ⊎_elim
     (λ (lost : (error ≡ 2) × ((a : Away) × IsNeeded kept hand a)). inl (lost.0, (lost.1.0, needed_as kept shown hand lost.1.0 same lost.1.1)))
@@ -279,7 +279,7 @@ module _ {M : Type 0} (g : drive.Ghosts M) (drives : List M) (faults : List Faul
   faulted : (entry : StubEntry) (fault : Fault) → asked ≡ Fetch entry → told ≡ heard.Fetched (Err (fetching.Media fault)) → IsOf entry fault
   faulted entry fault is hears = let both = rw (is, hears) at hears_of in both.0
 
-  reasons : (kept : List Kept) (hand : Hand) (response : Response) → recall.IsReason kept hand asked told response → IsReason kept hand response
+  reasons : (kept : List Kept) (hand : Hand) (response : Response) → recall.IsReason kept hand asked told response → IsReasonTold kept hand response
   reasons kept hand Continue is = is
   reasons kept hand (Abort error) is = ⊎_elim
       (λ (lost : (error ≡ 2) × IsLost kept hand asked told). let there = lost.1.2 in inl (lost.0, (there.0, there.3)))
@@ -347,20 +347,20 @@ abbrev Starts : Recalling → Type 0
 Starts r = IsAtStart r.machine.known.seat r.machine.asked (told_next r.next) × (r.machine.known.hand ≡ None)
 
 module _ {M : Type 0} (g : drive.Ghosts M) (k : Known) (drives : List M) (faults : List Fault) (r : Recalling) (machine : Machine) (shows : RecallKnows g k drives faults r) where
-  begins_only : (sid : Sid) (asked : DmCall) → Starts r → GoesOn r.machine (told_next r.next) (Dm sid asked) machine → IsBegin sid asked
+  begins_only : (sid : Sid) (asked : DmCall) → Starts r → StepsOn r.machine (told_next r.next) (Dm sid asked) machine → IsBegin sid asked
   begins_only sid asked start goes =
       begins_at_once (now r) r.machine.asked (told_next r.next) sid asked (ap (λ (x : Known). x.seat) (starts r.machine.known r.machine.asked (told_next r.next) start.0.1) ∙ start.0.0) goes.may
 
-  knows_now : (act : Act) (told : Heard) → GoesOn r.machine (told_next r.next) act machine → knows_by machine.known machine.asked told ≡ knows_by (asks_by (now r) act) act told
+  knows_now : (act : Act) (told : Heard) → StepsOn r.machine (told_next r.next) act machine → knows_by machine.known machine.asked told ≡ knows_by (asks_by (now r) act) act told
   knows_now act told goes = ap₂ (λ (x : Known) (a : Act). knows_by x a told) goes.known goes.asked
 
-  pub recall_may : (sid : Sid) (asked : DmCall) → GoesOn r.machine (told_next r.next) (Dm sid asked) machine → RecallMay k sid asked
+  pub recall_may : (sid : Sid) (asked : DmCall) → StepsOn r.machine (told_next r.next) (Dm sid asked) machine → RecallMay k sid asked
   recall_may sid asked goes = ⊎_elim
       (λ (start : Starts r). let only = begins_only sid asked start goes in subst (λ (c : DmCall). RecallMay k sid c) (sym only.0) only.1)
       (λ (same : IsKnownAs (now r) k). may_as (now r) k sid asked same (may_call g drives faults r.machine.asked (told_next r.next) shows.heard (now r) sid asked goes.may))
       shows.known
 
-  pub recall_told : (sid : Sid) (asked : DmCall) (answer : DmReply) → GoesOn r.machine (told_next r.next) (Dm sid asked) machine
+  pub recall_told : (sid : Sid) (asked : DmCall) (answer : DmReply) → StepsOn r.machine (told_next r.next) (Dm sid asked) machine
       → IsKnownAs (knows_by machine.known machine.asked (heard.Dm answer)) (hears (asks k asked) asked answer)
   recall_told sid asked answer goes = subst (λ (x : Known). IsKnownAs x (hears (asks k asked) asked answer)) (sym (knows_now (Dm sid asked) (heard.Dm answer) goes)) (⊎_elim
       (λ (start : Starts r). begins (now r) k asked answer (begins_only sid asked start goes).0)
@@ -368,13 +368,13 @@ module _ {M : Type 0} (g : drive.Ghosts M) (k : Known) (drives : List M) (faults
       shows.known)
 
   -- it answers that there is no such object after a fetch by the entry of a needed segment
-  pub recall_lost : (sid : Sid) (t : Token) → GoesOn r.machine (told_next r.next) (Dm sid (Respond t (Abort 2))) machine → IsLostBy k r.machine.asked (told_next r.next)
+  pub recall_lost : (sid : Sid) (t : Token) → StepsOn r.machine (told_next r.next) (Dm sid (Respond t (Abort 2))) machine → IsLostBy k r.machine.asked (told_next r.next)
   recall_lost sid t goes = ⊎_elim
       (λ (start : Starts r). let only : Respond t (Abort 2) ≡ GetAllSessions = (begins_only sid (Respond t (Abort 2)) start goes).0 in cc only)
       (λ (same : IsKnownAs (now r) k). let may = goes.may.1 in lost_as (now r) k r.machine.asked (told_next r.next) may.0 same may.1 may.3)
       shows.known
 
-  pub recall_rests : (act : Act) (told : Heard) → IsNoCall act → GoesOn r.machine (told_next r.next) act machine
+  pub recall_rests : (act : Act) (told : Heard) → IsNoCall act → StepsOn r.machine (told_next r.next) act machine
       → (IsAtStart machine.known.seat machine.asked told × (machine.known.hand ≡ None)) ⊎ IsKnownAs (knows_by machine.known machine.asked told) k
   recall_rests act told no_call goes = ⊎_elim
       (λ (start : Starts r). absurd (no_rest (now r) r.machine.asked (told_next r.next) act no_call start.0.1 (ap (λ (x : Known). x.hand) (starts r.machine.known r.machine.asked (told_next r.next) start.0.1) ∙ start.1) goes.may))

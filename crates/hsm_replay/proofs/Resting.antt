@@ -50,7 +50,7 @@ use Rattle.marked_history.specs.Follows.{IsMadeBy, IsOfSettling, IsPartOf}
 use Rattle.script_text.specs.declared.lines.Line.TheVariants.{Settle}
 use Rattle.hsm_replay.specs.Faults.{faults_in}
 use Rattle.hsm_replay.specs.Freshness.{IsFresh, IsToldTable, StaysFresh}
-use Rattle.hsm_replay.specs.Keeping.{unmarked, IsAtStart, IsKnownAs, IsShownAs, RecallKnows, MigrateKnows, Shows, Keeps, LiveOn}
+use Rattle.hsm_replay.specs.Keeping.{unmarked, IsAtStart, IsKnownAs, IsShownAs, RecallKnows, MigrateKnows, Shows, GrowsBy, LiveOn}
 use Rattle.marked_history.specs.Marks.{Mark, entries_of}
 use Rattle.hsm_replay.specs.Resting.{EndsInTurns, first_of, IsSettledIn, IsLeftBy, LeadsTo, EndsMarked, LeadsOn}
 use Rattle.hsm_replay.specs.Systems.{refreshed, told_next}
@@ -62,7 +62,7 @@ use Rattle.marked_history.specs.Waiting.{runs, no_more, unserved, PutsOff, Recal
 use Rattle.hsm_replay.proofs.Begun.{begins_pass}
 use Rattle.hsm_replay.proofs.ByRunning.{by_running_then}
 use Rattle.hsm_replay.proofs.Living.{live_then, live_through}
-use Rattle.hsm_replay.proofs.Coming.{unseated as no_session}
+use Rattle.hsm_replay.proofs.SessionCalls.{unseated as no_session}
 use Rattle.hsm_replay.proofs.Freshness.{refreshed_fresh}
 use Rattle.hsm_replay.proofs.Kept.{told_unmarked}
 use Rattle.marked_history.proofs.Lists.{first_in, later_in, first_or_rest, all_then}
@@ -121,7 +121,7 @@ told_back kept t h told = (told.0, kept_marked kept told.0 told.1.0 told.1.1, to
 -- ---- recall at rest
 
 module _ {M : Type 0} (g : drive.Ghosts M) (entries : List Entry) (rights : Rights) (k : recall.Known) (drives : List M) (faults : List Fault) where
-  module _ (r : Recalling) (rests : settled.RecallRests entries r.machine) (up : settled.AreHeldUp entries rights r.machine.known.seat) (knows : RecallKnows g k drives faults r) where
+  module _ (r : Recalling) (rests : settled.RecallEndedTurn entries r.machine) (up : settled.AreStillRefused entries rights r.machine.known.seat) (knows : RecallKnows g k drives faults r) where
     abbrev seat : Seat
     seat = r.machine.known.seat
 
@@ -137,7 +137,7 @@ module _ {M : Type 0} (g : drive.Ghosts M) (entries : List Entry) (rights : Righ
       seated_so = record { session = sym (ap (λ (s : Seat). s.sid) same) ∙ seated.session; set = sym (ap (λ (s : Seat). s.set) same) ∙ seated.set; found = sym (ap (λ (s : Seat). s.unfound) same) ∙ seated.found }
 
       abbrev IsUp : Token → Type 0
-      IsUp t = settled.IsHeldUp entries rights seat t
+      IsUp t = settled.IsStillRefused entries rights seat t
 
       all_up : AllByRecursion (λ (x : Kept). IsUp x.event.token) k.seat.kept
       all_up = each_marked IsUp k.seat.kept (subst (λ (l : List Kept). AllByRecursion (λ (x : Kept). IsUp x.event.token) l) same_kept (each_unmarked IsUp seat.kept up))
@@ -166,7 +166,7 @@ module _ {M : Type 0} (g : drive.Ghosts M) (entries : List Entry) (rights : Righ
         })
     recall_by (inr one) = inl (rests.turn.0, rests.turn.1, rests.turn.2, one)
 
-  recall_ends : (o : Option Recalling) → IfSome o (λ (r : Recalling). settled.RecallRests entries r.machine) → IfSome o (λ (r : Recalling). settled.AreHeldUp entries rights r.machine.known.seat) → IfSome o (RecallKnows g k drives faults)
+  recall_ends : (o : Option Recalling) → IfSome o (λ (r : Recalling). settled.RecallEndedTurn entries r.machine) → IfSome o (λ (r : Recalling). settled.AreStillRefused entries rights r.machine.known.seat) → IfSome o (RecallKnows g k drives faults)
       → is_some o ≡ true → EndsRefused entries ⊎ RecallRests k.seat entries
   recall_ends None rests up knows runs = absurd (false≢true runs)
   recall_ends (Some r) rests up knows runs = recall_by r rests up knows (ends_so r.machine.known.seat rests.turn.1.actor rests.turn.1.action rests.turn.1.answer rests.turn.3)
@@ -178,7 +178,7 @@ abbrev HadSpace : Numbers → List Entry → Type 0
 HadSpace limits entries = (space : Space) × settled.IsToldSpace entries space × (is_above limits.high (Some space) ≡ false)
 
 module _ (limits : Numbers) (entries : List Entry) (k : migrate.Known) where
-  module _ (m : Migrating) (rests : settled.MigrateRests limits entries m.machine) (knows : MigrateKnows k m) where
+  module _ (m : Migrating) (rests : settled.MigrateEndedTurn limits entries m.machine) (knows : MigrateKnows k m) where
     abbrev own_seat : Seat
     own_seat = m.machine.known.seat
 
@@ -209,11 +209,11 @@ module _ (limits : Numbers) (entries : List Entry) (k : migrate.Known) where
       spares_by fresh (inl more) = inr (λ sid seated. spares_now fresh (rests.none_due sid (subst (λ (s : Seat). IsSeated s sid) (sym (migrate_seat more.0 more.2 knows)) seated)))
       spares_by fresh (inr one) = inl (rests.turn.0, rests.turn.1, rests.turn.2, one)
 
-  migrate_ends : (o : Option Migrating) → IfSome o (λ (m : Migrating). settled.MigrateRests limits entries m.machine) → IfSome o (MigrateKnows k) → is_some o ≡ true → EndsRefused entries ⊎ MigrateRests k.seat entries
+  migrate_ends : (o : Option Migrating) → IfSome o (λ (m : Migrating). settled.MigrateEndedTurn limits entries m.machine) → IfSome o (MigrateKnows k) → is_some o ≡ true → EndsRefused entries ⊎ MigrateRests k.seat entries
   migrate_ends None rests knows runs = absurd (false≢true runs)
   migrate_ends (Some m) rests knows runs = migrate_by m rests knows (ends_so m.machine.known.seat rests.turn.1.actor rests.turn.1.action rests.turn.1.answer rests.turn.3)
 
-  migrate_spares : (Began : Type 0) (o : Option Migrating) → IfSome o (λ (m : Migrating). settled.MigrateRests limits entries m.machine) → IfSome o (MigrateKnows k) → is_some o ≡ true
+  migrate_spares : (Began : Type 0) (o : Option Migrating) → IfSome o (λ (m : Migrating). settled.MigrateEndedTurn limits entries m.machine) → IfSome o (MigrateKnows k) → is_some o ≡ true
       → IfSome o (λ (m : Migrating). (migrate.knows_by m.machine.limits m.machine.known m.machine.asked (told_next m.next)).fresh ≡ true) ⊎ Began → EndsRefused entries ⊎ ((sid : Sid) → IsSeated k.seat sid → Began ⊎ HadSpace limits entries)
   migrate_spares Began None rests knows runs fresh = absurd (false≢true runs)
   migrate_spares Began (Some m) rests knows runs fresh = spares_by m rests knows Began fresh (ends_so m.machine.known.seat rests.turn.1.actor rests.turn.1.action rests.turn.1.answer rests.turn.3)
@@ -384,7 +384,7 @@ module _ {D M : Type 0} (h : drive.Ghosts M) (opened : List M) (before part : Li
       }
 
 -- a settling that came to rest
-pub settles_rightly : {D M : Type 0} (g : disk.Ghosts D) (h : drive.Ghosts M) (old mid new : Run D M) → running mid ≡ running old → Keeps h (AllByRecursion IsOfSettling) old mid → EndsMarked h mid new → StaysFresh (refreshed old) new → IsKept g new.system.store → new.system.store.files.failed ≡ false → LeadsTo h (AllByRecursion IsOfSettling) (IsSettledIn new) old new
+pub settles_rightly : {D M : Type 0} (g : disk.Ghosts D) (h : drive.Ghosts M) (old mid new : Run D M) → running mid ≡ running old → GrowsBy h (AllByRecursion IsOfSettling) old mid → EndsMarked h mid new → StaysFresh (refreshed old) new → IsKept g new.system.store → new.system.store.files.failed ≡ false → LeadsTo h (AllByRecursion IsOfSettling) (IsSettledIn new) old new
 settles_rightly g h old mid new runs keeps ends fresh kept working opened marks shows =
     let one = keeps opened marks shows in
     let two = ends.1 opened (marks ++ one.0) one.2 in
@@ -399,7 +399,7 @@ settles_rightly g h old mid new runs keeps ends fresh kept working opened marks 
     )
 
 -- what else is so of the marks that a line leads to
-pub keeps_leads : {D M T : Type 0} (h : drive.Ghosts M) (IsPart : List Mark → Type 0) (IsSo : List Mark → List Mark → Type 0) (result : Result T Stop) (old new : Run D M) → OnOk result (Keeps h IsPart old new)
+pub keeps_leads : {D M T : Type 0} (h : drive.Ghosts M) (IsPart : List Mark → Type 0) (IsSo : List Mark → List Mark → Type 0) (result : Result T Stop) (old new : Run D M) → OnOk result (GrowsBy h IsPart old new)
     → ((before part : List Mark) → IsPart part → LiveOn old new before part → IsSo before part) → LeadsOn h IsPart IsSo result old new
 keeps_leads h IsPart IsSo (Ok done) old new keeps so = λ working opened marks shows.
     let one = keeps opened marks shows in (one.0, one.1, one.2, so marks one.0 one.1 one.4, one.3, one.4)

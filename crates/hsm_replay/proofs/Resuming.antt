@@ -18,7 +18,7 @@ use Rattle.plain_model.specs.declared.entries.Action.TheVariants.{Resume}
 use Rattle.plain_model.specs.declared.entries.Actor.TheVariants.{Caller}
 use Rattle.plain_model.specs.declared.entries.Answer.{Answer}
 use Rattle.plain_model.specs.declared.entries.Entry.{Entry}
-use Rattle.deeds.specs.Deeds.{Deed, entries_of, IsServed}
+use Rattle.deeds.specs.Deeds.{Deed, entries_of, StopsNothing}
 use Rattle.deeds.specs.Given.{Given, given_behind}
 use Rattle.hsm_replay.specs.Deeds.{MayResumeBy, IsResumeCut}
 use Rattle.hsm_replay.specs.Parts.{AreResumes, ResumesInTurn, entries_below, resume_of}
@@ -95,7 +95,7 @@ module _ (MayGoOn : List Entry → ℕ → Type 0) (given : Given) where
     pub parted : deeds ≡ map resume_of told
     pub numbers : All IsCallerNumber (keys_of told)
     pub ascend : IsStrictlySortedBy nat_cmp (keys_of told)
-    pub served : All (λ (x : ℕ × Answer). IsServed x.1) told
+    pub served : All (λ (x : ℕ × Answer). StopsNothing x.1) told
     pub below : All (λ (key : ℕ). key < number) (keys_of told)
     pub ready : (caller : ℕ) → IsCallerNumber caller → caller < number → ResumesInTurn MayGoOn given.history told caller
 
@@ -105,7 +105,7 @@ module _ (MayGoOn : List Entry → ℕ → Type 0) (given : Given) where
     parted = refl;
     numbers = All-nil IsCallerNumber;
     ascend = sorted_none;
-    served = All-nil (λ (x : ℕ × Answer). IsServed x.1);
+    served = All-nil (λ (x : ℕ × Answer). StopsNothing x.1);
     below = All-nil (λ (key : ℕ). key < 1);
     ready = λ caller is less. absurd (omega (arith, is.0, less));
   }
@@ -164,13 +164,13 @@ module _ (MayGoOn : List Entry → ℕ → Type 0) (given : Given) where
       may_here = subst (λ (es : List Entry). MayGoOn es number) (sym entries_so) may
 
       -- it may, and has
-      pub resumes_on : (told : Answer) → IsServed told → ResumesTo (number + 1) (deeds ++ resume_of (number, told) ∷ [])
+      pub resumes_on : (told : Answer) → StopsNothing told → ResumesTo (number + 1) (deeds ++ resume_of (number, told) ∷ [])
       resumes_on told served = record {
         told = all;
         parted = ap (λ (ds : List Deed). ds ++ resume_of x ∷ []) so.parted ∙ sym (map-append resume_of so.told (x ∷ []));
         numbers = subst (λ (l : List ℕ). All IsCallerNumber l) (sym (keys_more so.told x)) numbers_push;
         ascend = subst (λ (l : List ℕ). IsStrictlySortedBy nat_cmp l) (sym (keys_more so.told x)) ascend_push;
-        served = All-push (λ (y : ℕ × Answer). IsServed y.1) so.told x so.served served;
+        served = All-push (λ (y : ℕ × Answer). StopsNothing y.1) so.told x so.served served;
         below = subst (λ (l : List ℕ). All (λ (key : ℕ). key < number + 1) l) (sym (keys_more so.told x)) below_push;
         ready = λ caller is less. by caller is (below_or number caller less);
       }

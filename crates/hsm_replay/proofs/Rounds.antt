@@ -20,12 +20,12 @@ use Rattle.hsm_core.specs.declared.store.Ready.TheVariants.{Now}
 use Rattle.hsm_system.specs.Running.{Recalling, Migrating}
 use Rattle.marked_history.specs.Waiting.{Running}
 use Rattle.marked_history.specs.Follows.{IsMadeBy, IsOfSettling}
-use Rattle.hsm_replay.specs.Keeping.{Shows, Keeps, LiveOn}
+use Rattle.hsm_replay.specs.Keeping.{Shows, GrowsBy, LiveOn}
 use Rattle.marked_history.specs.Marks.{Mark, entries_of}
 use Rattle.marked_history.specs.Quiet.{is_quiet}
 use Rattle.hsm_replay.specs.Freshness.{StaysFresh}
 use Rattle.hsm_replay.specs.Resting.{EndsInTurns, LeadsTo, EndsMarked}
-use Rattle.hsm_replay.specs.Settled.{RecallRests, AreHeldUp, NoneReady}
+use Rattle.hsm_replay.specs.Settled.{RecallEndedTurn, AreStillRefused, NoneReady}
 use Rattle.hsm_replay.specs.Systems.{Run, running}
 use Rattle.hsm_replay.proofs.ByRunning.{by_running_then}
 use Rattle.hsm_replay.specs.Turns.{HasTurned, MayResume, IsResumeOf, HaveResumed}
@@ -138,7 +138,7 @@ no_marks [] is = refl
 no_marks (m ∷ more) is = absurd cc
 
 module _ {D M : Type 0} (g : disk.Ghosts D) (h : drive.Ghosts M) where
-  pub round_ends : (old a b c : Run D M) → HasTurned Recall old a → Keeps h (AllByRecursion (IsMadeBy Recall)) old a → HaveResumed a b → Keeps h (AllByRecursion IsOfSettling) a b → HasTurned Migrate b c → Keeps h (AllByRecursion (IsMadeBy Migrate)) b c
+  pub round_ends : (old a b c : Run D M) → HasTurned Recall old a → GrowsBy h (AllByRecursion (IsMadeBy Recall)) old a → HaveResumed a b → GrowsBy h (AllByRecursion IsOfSettling) a b → HasTurned Migrate b c → GrowsBy h (AllByRecursion (IsMadeBy Migrate)) b c
       → list_all is_quiet (drop (length old.system.store.history) c.system.store.history) ≡ true → EndsMarked h old c
   round_ends old a b c recalled by_recall resumed by_callers migrated by_migrate quiet = by resumed.none
     where
@@ -189,10 +189,10 @@ module _ {D M : Type 0} (g : disk.Ghosts D) (h : drive.Ghosts M) where
               migrate_turn = migrated.entries;
               history = history;
               quiet = all_quiet;
-              recall = subst (λ (o : Option Recalling). IfSome o (λ (r : Recalling). RecallRests recalled.entries r.machine)) (sym stays) recalled.over.turn;
+              recall = subst (λ (o : Option Recalling). IfSome o (λ (r : Recalling). RecallEndedTurn recalled.entries r.machine)) (sym stays) recalled.over.turn;
               migrate = migrated.over.turn;
-              held_up = subst (λ (o : Option Recalling). IfSome o (λ (r : Recalling). AreHeldUp recalled.entries (state_of c.system.store).rights r.machine.known.seat)) (sym stays)
-                  (subst (λ (rs : Rights). IfSome a.system.recall (λ (r : Recalling). AreHeldUp recalled.entries rs r.machine.known.seat)) (sym rights) (recalled.over.held_up parts.0));
+              held_up = subst (λ (o : Option Recalling). IfSome o (λ (r : Recalling). AreStillRefused recalled.entries (state_of c.system.store).rights r.machine.known.seat)) (sym stays)
+                  (subst (λ (rs : Rights). IfSome a.system.recall (λ (r : Recalling). AreStillRefused recalled.entries rs r.machine.known.seat)) (sym rights) (recalled.over.held_up parts.0));
               ready = λ caller is now. none.1 caller is (sym (alike.ready caller) ∙ now);
             },
             marked none.0,

@@ -41,8 +41,8 @@ use Rattle.marked_history.specs.Served.{Shown, shown, nothing_shown, MigrateMay}
 use Rattle.hsm_replay.specs.Systems.{Run, told_next}
 use Rattle.hsm_replay.proofs.Growing.{one_more_true, have_grown_itself}
 use Rattle.hsm_replay.proofs.Marked.{shown_more, marked_more, marked_still, no_fault_more, fault_more, still_known_if}
-use Rattle.hsm_replay.proofs.Coming.{IsNoCall}
-use Rattle.hsm_replay.proofs.Moving.{recall_left, migrate_left}
+use Rattle.hsm_replay.proofs.SessionCalls.{IsNoCall}
+use Rattle.hsm_replay.proofs.ActSteps.{recall_left, migrate_left}
 use Rattle.hsm_replay.proofs.RecallShown.{recall_may, recall_told, recall_lost, recall_rests}
 use Rattle.hsm_replay.proofs.MigrateShown.{migrate_may, migrate_told, migrate_seals, migrate_rests}
 use Rattle.hsm_replay.proofs.Filling.{full_still_if, full_on}
@@ -73,7 +73,7 @@ module _ {D M : Type 0} (h : drive.Ghosts M) (opened : List M) (marks : List Mar
     lost_then : HearsLost h opened old.drives marks r.machine.asked (told_next r.next)
     lost_then = subst (λ (o : Option Recalling). IfSome o (λ (x : Recalling). HearsLost h opened old.drives marks x.machine.asked (told_next x.next))) runs shows.lost
 
-    module _ (sid : Sid) (asked : DmCall) (reply : DmReply) (goes : recaller.GoesOn r.machine (told_next r.next) (Dm sid asked) machine) where
+    module _ (sid : Sid) (asked : DmCall) (reply : DmReply) (goes : recaller.StepsOn r.machine (told_next r.next) (Dm sid asked) machine) where
       abbrev pub entry : Entry
       entry = entry_of (Session sid) (action.Dm asked) (answer.Dm reply)
 
@@ -100,7 +100,7 @@ module _ {D M : Type 0} (h : drive.Ghosts M) (opened : List M) (marks : List Mar
       -- its answer that there is no such object is for the one that it heard of
       aborts_for : (t : Token) → asked ≡ Respond t (Abort 2) → NeedsLost h opened old.drives before.recall marks
       aborts_for t is =
-          let by = recall_lost h before.recall old.drives told_faults r machine knows sid t (subst (λ (c : DmCall). recaller.GoesOn r.machine (told_next r.next) (Dm sid c) machine) is goes) in
+          let by = recall_lost h before.recall old.drives told_faults r machine knows sid t (subst (λ (c : DmCall). recaller.StepsOn r.machine (told_next r.next) (Dm sid c) machine) is goes) in
           (by.0, by.1, by.4, by.5, subst (λ (told : Heard). HearsLost h opened old.drives marks (Fetch by.1.entry) told) by.7 (subst (λ (a : Act). HearsLost h opened old.drives marks a (told_next r.next)) by.6 lost_then))
 
       same_call : (x : Sid) (c : DmCall) (y : DmReply) → made Recall x c y ≡ one → asked ≡ c
@@ -141,7 +141,7 @@ module _ {D M : Type 0} (h : drive.Ghosts M) (opened : List M) (marks : List Mar
       }
 
     -- a rest, or what is heard of a fetch
-    pub recall_went : (act : Act) (told : Heard) → IsNoCall act → recaller.GoesOn r.machine (told_next r.next) act machine → (drives : List M) → HaveGrown h old.drives drives → IsHeardOf h drives told_faults act told → HearsLost h opened drives marks act told → Shows h opened (marks ++ []) (recall_left old machine told old.system.store drives)
+    pub recall_went : (act : Act) (told : Heard) → IsNoCall act → recaller.StepsOn r.machine (told_next r.next) act machine → (drives : List M) → HaveGrown h old.drives drives → IsHeardOf h drives told_faults act told → HearsLost h opened drives marks act told → Shows h opened (marks ++ []) (recall_left old machine told old.system.store drives)
     recall_went act told no_call goes drives grown about lost = record {
       marked = marked_still h opened marks old (recall_left old machine told old.system.store drives) shows.marked refl refl grown;
       recall = subst (λ (ms : List Mark). RecallKnows h (shown old.system.limits nothing_shown ms).recall drives told_faults (record { machine = machine; next = Hears told })) (sym (append-nil marks))
@@ -168,7 +168,7 @@ module _ {D M : Type 0} (h : drive.Ghosts M) (opened : List M) (marks : List Mar
     stood : PassStands old.system.limits marks m
     stood = subst (λ (o : Option Migrating). IfSome o (PassStands old.system.limits marks)) runs shows.passing
 
-    module _ (sid : Sid) (asked : DmCall) (reply : DmReply) (goes : migrator.GoesOn m.machine (told_next m.next) (Dm sid asked) machine) where
+    module _ (sid : Sid) (asked : DmCall) (reply : DmReply) (goes : migrator.StepsOn m.machine (told_next m.next) (Dm sid asked) machine) where
       abbrev pub call_entry : Entry
       call_entry = entry_of (Session sid) (action.Dm asked) (answer.Dm reply)
 
@@ -186,7 +186,7 @@ module _ {D M : Type 0} (h : drive.Ghosts M) (opened : List M) (marks : List Mar
 
       -- what it seals is stored
       seals_stored : (c : DmCall) → asked ≡ c → IfSome (seal_by (Some Migrate) (action.Dm c)) (IsStored h old.drives)
-      seals_stored (Seal t file segment entry) is = migrate_seals before.migrate m machine knew h old.drives stored_then sid t file segment entry (subst (λ (c : DmCall). migrator.GoesOn m.machine (told_next m.next) (Dm sid c) machine) is goes)
+      seals_stored (Seal t file segment entry) is = migrate_seals before.migrate m machine knew h old.drives stored_then sid t file segment entry (subst (λ (c : DmCall). migrator.StepsOn m.machine (told_next m.next) (Dm sid c) machine) is goes)
       seals_stored other is = tt
 
       hears_stored : (c : DmCall) → asked ≡ c → HearsStored h old.drives (Dm sid c) (heard.Dm reply)
@@ -228,7 +228,7 @@ module _ {D M : Type 0} (h : drive.Ghosts M) (opened : List M) (marks : List Mar
       }
 
     -- a rest, or what is heard of a copy
-    pub migrate_went : (act : Act) (told : Heard) → IsNoCall act → HearsCopy act told → migrator.GoesOn m.machine (told_next m.next) act machine → (drives : List M) → HaveGrown h old.drives drives → HearsStored h drives act told → HearsFull h drives act told
+    pub migrate_went : (act : Act) (told : Heard) → IsNoCall act → HearsCopy act told → migrator.StepsOn m.machine (told_next m.next) act machine → (drives : List M) → HaveGrown h old.drives drives → HearsStored h drives act told → HearsFull h drives act told
         → Shows h opened (marks ++ []) (migrate_left old machine told old.system.store drives)
     migrate_went act told no_call copied goes drives grown about about_full = record {
       marked = marked_still h opened marks old (migrate_left old machine told old.system.store drives) shows.marked refl refl grown;

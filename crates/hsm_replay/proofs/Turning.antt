@@ -47,21 +47,21 @@ use Rattle.hsm_system.specs.Asking.{AsksFrom, RecallAsks, MigrateAsks, RecallIsR
 use Rattle.hsm_system.specs.Systems.{System, IsDown, Rests}
 use Rattle.marked_history.specs.Quiet.{is_quiet, is_quiet_event}
 use Rattle.marked_history.specs.Waiting.{Running}
-use Rattle.hsm_replay.specs.Settled.{IsTurn, RecallRests, IsToldSpace, NoneDue, MigrateRests, AreHeldUp}
+use Rattle.hsm_replay.specs.Settled.{IsTurn, RecallEndedTurn, IsToldSpace, NoneDue, MigrateEndedTurn, AreStillRefused}
 use Rattle.hsm_replay.specs.Steps.{Steps}
 use Rattle.hsm_replay.specs.Systems.{Run, drive_of, running, told_next}
 use Rattle.hsm_replay.specs.Freshness.{StaysFresh}
 use Rattle.hsm_replay.specs.Turns.{Stands, IsKeptBack, RecallStands, MigrateStands, StandsIn, IsOver, IsInTurn, IsAlone, LeavesAlike, GoesInTurn, HasTurned}
 use Rattle.hsm_system.proofs.Asked.{recall_rest_knows, recall_asks_on, recall_rest_seated, migrate_asks_on, all_told, refusal_told}
 use Rattle.hsm_system.specs.declared.daemons.Next.TheVariants.{Hears}
-use Rattle.hsm_replay.proofs.Coming.{unseated as no_session}
+use Rattle.hsm_replay.proofs.SessionCalls.{unseated as no_session}
 use Rattle.hsm_replay.proofs.Due.{space_then, space_first, none_due}
 use Rattle.hsm_replay.proofs.Freshness.{fresh_now, fresh_called, fresh_went, fresh_alone, fresh_itself, fresh_on}
 use Rattle.hsm_replay.proofs.HeldUp.{after_call, after_fetch, after_rest, held_up_at_rest, kept_back_first}
 use Rattle.hsm_replay.proofs.Longer.{over_longer}
 use Rattle.hsm_replay.proofs.Refusals.{own_reply}
-use Rattle.hsm_replay.proofs.Moving.{recall_waits, migrate_waits, recall_left, migrate_left, recall_acts, migrate_acts}
-use Rattle.hsm_replay.proofs.Moving.{recall_behind_call, recall_behind_fetch, migrate_behind_call, migrate_behind_copy}
+use Rattle.hsm_replay.proofs.ActSteps.{recall_waits, migrate_waits, recall_left, migrate_left, recall_acts, migrate_acts}
+use Rattle.hsm_replay.proofs.ActSteps.{recall_behind_call, recall_behind_fetch, migrate_behind_call, migrate_behind_copy}
 use Rattle.marked_history.proofs.QuietEvents.{all_quiet_append, quiet_ready, quiet_rights}
 
 -- ---- what a turn ends with
@@ -101,9 +101,9 @@ module _ (old : recaller.Machine) (told : Heard) (asks : RecallAsks old) where
   recall_turn entries stands (inr refused) =
       refused_turn at_rest entries old.asked told (ap (λ (s : Seat). record s { kept = all_marked false s.kept }) (unseated (inr refused) refused)) stands refused
 
-  recall_held_up : (entries : List Entry) (rights : Rights) → IsKeptBack entries rights recall_now old.asked → recall.MayRest recall_now old.asked told → AreHeldUp entries rights at_rest
+  recall_held_up : (entries : List Entry) (rights : Rights) → IsKeptBack entries rights recall_now old.asked → recall.MayRest recall_now old.asked told → AreStillRefused entries rights at_rest
   recall_held_up entries rights back (inl all) = held_up_at_rest entries rights recall_now old.asked told back all.1
-  recall_held_up entries rights back (inr refused) = subst (λ (s : Seat). AreHeldUp entries rights (record s { kept = all_marked false s.kept })) (sym (unseated (inr refused) refused)) tt
+  recall_held_up entries rights back (inr refused) = subst (λ (s : Seat). AreStillRefused entries rights (record s { kept = all_marked false s.kept })) (sym (unseated (inr refused) refused)) tt
 
 all_turn : (seat : Seat) (entries : List Entry) (asked : Act) (told : Heard) → AsksFrom seat asked → Stands entries asked told → migrator.HasAll asked told → IsTurn seat entries
 all_turn seat entries (Dm sid (GetEvents most room)) (heard.Dm (Refused Again)) asks stands all = (stands.0, _, stands.1, (all.0, all.1, asks))
@@ -175,28 +175,28 @@ module _ {D M : Type 0} (g : disk.Ghosts D) (h : drive.Ghosts M) where
     now = recall.knows_by r.machine.known r.machine.asked (told_next r.next)
 
     -- what it knows next, by its act
-    back_then : (es : List Entry) (left : Rights) (act : Act) (told : Heard) → recaller.GoesOn r.machine (told_next r.next) act machine → IsKeptBack es left (recall.knows_by (recall.asks_by now act) act told) act → IsKeptBack es left (recall.knows_by machine.known machine.asked told) machine.asked
+    back_then : (es : List Entry) (left : Rights) (act : Act) (told : Heard) → recaller.StepsOn r.machine (told_next r.next) act machine → IsKeptBack es left (recall.knows_by (recall.asks_by now act) act told) act → IsKeptBack es left (recall.knows_by machine.known machine.asked told) machine.asked
     back_then es left act told goes back = subst (λ (k : recall.Known). IsKeptBack es left (recall.knows_by k machine.asked told) machine.asked) (sym goes.known) (subst (λ (a : Act). IsKeptBack es left (recall.knows_by (recall.asks_by now act) a told) a) (sym goes.asked) back)
 
-    stands_then : (es : List Entry) (left : Rights) (act : Act) (told : Heard) → recaller.GoesOn r.machine (told_next r.next) act machine → Stands es act told → (list_all is_quiet es ≡ true → IsKeptBack es left (recall.knows_by (recall.asks_by now act) act told) act) → RecallStands es left (record { machine = machine; next = Hears told })
+    stands_then : (es : List Entry) (left : Rights) (act : Act) (told : Heard) → recaller.StepsOn r.machine (told_next r.next) act machine → Stands es act told → (list_all is_quiet es ≡ true → IsKeptBack es left (recall.knows_by (recall.asks_by now act) act told) act) → RecallStands es left (record { machine = machine; next = Hears told })
     stands_then es left act told goes at back = record {
       asks = recall_asks_on r.machine (told_next r.next) stands.asks act machine goes;
       stands = subst (λ (a : Act). Stands es a told) (sym goes.asked) at;
       back = λ quiet. back_then es left act told goes (back quiet);
     }
 
-    fetch_stands : (entry : StubEntry) (told : Heard) → recaller.GoesOn r.machine (told_next r.next) (Fetch entry) machine → RecallStands entries rights (record { machine = machine; next = Hears told })
+    fetch_stands : (entry : StubEntry) (told : Heard) → recaller.StepsOn r.machine (told_next r.next) (Fetch entry) machine → RecallStands entries rights (record { machine = machine; next = Hears told })
     fetch_stands entry told goes = stands_then entries rights (Fetch entry) told goes tt (λ quiet. absurd (after_fetch entries rights now r.machine.asked (told_next r.next) (stands.back quiet) entry goes.may))
 
-    rest_stands : recaller.GoesOn r.machine (told_next r.next) Idle machine → RecallStands entries rights (record { machine = machine; next = Hears heard.Nothing })
+    rest_stands : recaller.StepsOn r.machine (told_next r.next) Idle machine → RecallStands entries rights (record { machine = machine; next = Hears heard.Nothing })
     rest_stands goes = stands_then entries rights Idle heard.Nothing goes tt (λ quiet. after_rest entries rights now r.machine.asked (told_next r.next) (stands.back quiet))
 
-    rest_ends : recaller.GoesOn r.machine (told_next r.next) Idle machine → IsTurn machine.known.seat entries × (list_all is_quiet entries ≡ true → AreHeldUp entries rights machine.known.seat)
-    rest_ends goes = subst (λ (k : recall.Known). IsTurn k.seat entries × (list_all is_quiet entries ≡ true → AreHeldUp entries rights k.seat)) (sym goes.known)
+    rest_ends : recaller.StepsOn r.machine (told_next r.next) Idle machine → IsTurn machine.known.seat entries × (list_all is_quiet entries ≡ true → AreStillRefused entries rights machine.known.seat)
+    rest_ends goes = subst (λ (k : recall.Known). IsTurn k.seat entries × (list_all is_quiet entries ≡ true → AreStillRefused entries rights k.seat)) (sym goes.known)
         (recall_turn r.machine (told_next r.next) stands.asks entries stands.stands goes.may, λ quiet. recall_held_up r.machine (told_next r.next) stands.asks entries rights (stands.back quiet) goes.may)
 
   -- its call was answered by the store itself
-  call_stands : (entries : List Entry) (s : Superblock) (st : State) (left : Rights) (r : Recalling) (machine : recaller.Machine) (sid : Sid) (c : DmCall) (reply : DmReply) → RecallStands entries st.rights r → recaller.GoesOn r.machine (told_next r.next) (Dm sid c) machine → reply ≡ dm_reply_to s st sid c → (is_quiet_event (action.Dm c) (answer.Dm reply) ≡ true → left ≡ st.rights)
+  call_stands : (entries : List Entry) (s : Superblock) (st : State) (left : Rights) (r : Recalling) (machine : recaller.Machine) (sid : Sid) (c : DmCall) (reply : DmReply) → RecallStands entries st.rights r → recaller.StepsOn r.machine (told_next r.next) (Dm sid c) machine → reply ≡ dm_reply_to s st sid c → (is_quiet_event (action.Dm c) (answer.Dm reply) ≡ true → left ≡ st.rights)
       → RecallStands (entries ++ entry_of (Session sid) (action.Dm c) (answer.Dm reply) ∷ []) left (record { machine = machine; next = Hears (heard.Dm reply) })
   call_stands entries s st left r machine sid c reply stands goes own same =
       let e : Entry = entry_of (Session sid) (action.Dm c) (answer.Dm reply) in
@@ -225,10 +225,10 @@ module _ {D M : Type 0} (g : disk.Ghosts D) (h : drive.Ghosts M) where
     stood : (entries : List Entry) → StandsIn Recall entries old → RecallStands entries held r
     stood entries stands = subst (λ (o : Option Recalling). IfSome o (RecallStands entries held)) runs stands
 
-    no_rest : (act : Act) (entries : List Entry) (then : Heard) (store : Store D) (drives : List M) → (act ≡ Idle → ⊥) → recaller.GoesOn r.machine (told_next r.next) act machine → Rests Recall (recall_left old machine then store drives).system → IsOver Recall entries (recall_left old machine then store drives)
+    no_rest : (act : Act) (entries : List Entry) (then : Heard) (store : Store D) (drives : List M) → (act ≡ Idle → ⊥) → recaller.StepsOn r.machine (told_next r.next) act machine → Rests Recall (recall_left old machine then store drives).system → IsOver Recall entries (recall_left old machine then store drives)
     no_rest act entries then store drives works goes idle = absurd (works (sym goes.asked ∙ idle))
 
-    recall_goes : (act : Act) → recaller.GoesOn r.machine (told_next r.next) act machine → Performs g h Recall (recall_waits old machine act) act new → StepGoes Recall old new
+    recall_goes : (act : Act) → recaller.StepsOn r.machine (told_next r.next) act machine → Performs g h Recall (recall_waits old machine act) act new → StepGoes Recall old new
     recall_goes (Dm sid c) goes performs =
         let reply : DmReply = performs.0.0 in
         let left : System D = performs.0.1 in
@@ -274,14 +274,14 @@ module _ {D M : Type 0} (g : disk.Ghosts D) (h : drive.Ghosts M) where
     abbrev then_knows : migrate.Known
     then_knows = migrate.knows_by m.machine.limits m.machine.known m.machine.asked (told_next m.next)
 
-    migrate_then : (es : List Entry) (act : Act) (told : Heard) → migrator.GoesOn m.machine (told_next m.next) act machine → Stands es act told → IfSome (migrate.knows_by machine.limits (migrate.asks_by then_knows act) act told).space (IsToldSpace es) → MigrateStands limits es (record { machine = machine; next = Hears told })
+    migrate_then : (es : List Entry) (act : Act) (told : Heard) → migrator.StepsOn m.machine (told_next m.next) act machine → Stands es act told → IfSome (migrate.knows_by machine.limits (migrate.asks_by then_knows act) act told).space (IsToldSpace es) → MigrateStands limits es (record { machine = machine; next = Hears told })
     migrate_then es act told goes at space = record {
       asks = migrate_asks_on m.machine (told_next m.next) limits act machine stands.asks goes;
       stands = subst (λ (a : Act). Stands es a told) (sym goes.asked) at;
       space = subst (λ (k : migrate.Known). IfSome (migrate.knows_by machine.limits k machine.asked told).space (IsToldSpace es)) (sym goes.known) (subst (λ (a : Act). IfSome (migrate.knows_by machine.limits (migrate.asks_by then_knows act) a told).space (IsToldSpace es)) (sym goes.asked) space);
     }
 
-    migrate_ends : migrator.GoesOn m.machine (told_next m.next) Idle machine → MigrateRests limits entries machine
+    migrate_ends : migrator.StepsOn m.machine (told_next m.next) Idle machine → MigrateEndedTurn limits entries machine
     migrate_ends goes =
         let ends = migrate_turn limits m.machine (told_next m.next) stands.asks machine.pass entries stands.stands stands.space goes.may in
         record {
@@ -301,10 +301,10 @@ module _ {D M : Type 0} (g : disk.Ghosts D) (h : drive.Ghosts M) where
     stood_so : (entries : List Entry) → StandsIn Migrate entries old → MigrateStands old.system.limits entries m
     stood_so entries stands = subst (λ (o : Option Migrating). IfSome o (MigrateStands old.system.limits entries)) runs stands
 
-    no_rest_so : (act : Act) (entries : List Entry) (then : Heard) (store : Store D) (drives : List M) → (act ≡ Idle → ⊥) → migrator.GoesOn m.machine (told_next m.next) act machine → Rests Migrate (migrate_left old machine then store drives).system → IsOver Migrate entries (migrate_left old machine then store drives)
+    no_rest_so : (act : Act) (entries : List Entry) (then : Heard) (store : Store D) (drives : List M) → (act ≡ Idle → ⊥) → migrator.StepsOn m.machine (told_next m.next) act machine → Rests Migrate (migrate_left old machine then store drives).system → IsOver Migrate entries (migrate_left old machine then store drives)
     no_rest_so act entries then store drives works goes idle = absurd (works (sym goes.asked ∙ idle))
 
-    migrate_goes : (act : Act) → migrator.GoesOn m.machine (told_next m.next) act machine → Performs g h Migrate (migrate_waits old machine act) act new → StepGoes Migrate old new
+    migrate_goes : (act : Act) → migrator.StepsOn m.machine (told_next m.next) act machine → Performs g h Migrate (migrate_waits old machine act) act new → StepGoes Migrate old new
     migrate_goes (Dm sid c) goes performs =
         let reply : DmReply = performs.0.0 in
         let left : System D = performs.0.1 in
@@ -351,11 +351,11 @@ module _ {D M : Type 0} (g : disk.Ghosts D) (h : drive.Ghosts M) where
 
   over_down : (daemon : Daemon) (entries : List Entry) (s : Run D M) → IsDown daemon s.system → IsOver daemon entries s
   over_down Recall entries s down = record {
-    turn = subst (λ (o : Option Recalling). IfSome o (λ (r : Recalling). RecallRests entries r.machine)) (sym down) tt;
-    held_up = λ quiet. subst (λ (o : Option Recalling). IfSome o (λ (r : Recalling). AreHeldUp entries (state_of s.system.store).rights r.machine.known.seat)) (sym down) tt;
+    turn = subst (λ (o : Option Recalling). IfSome o (λ (r : Recalling). RecallEndedTurn entries r.machine)) (sym down) tt;
+    held_up = λ quiet. subst (λ (o : Option Recalling). IfSome o (λ (r : Recalling). AreStillRefused entries (state_of s.system.store).rights r.machine.known.seat)) (sym down) tt;
   }
   over_down Migrate entries s down = record {
-    turn = subst (λ (o : Option Migrating). IfSome o (λ (m : Migrating). MigrateRests s.system.limits entries m.machine)) (sym down) tt;
+    turn = subst (λ (o : Option Migrating). IfSome o (λ (m : Migrating). MigrateEndedTurn s.system.limits entries m.machine)) (sym down) tt;
     held_up = λ quiet. tt;
   }
 

@@ -30,8 +30,8 @@ use Rattle.hsm_system.specs.Systems.{System, IsDown, Rests}
 use Rattle.marked_history.specs.Quiet.{is_quiet}
 use Rattle.hsm_replay.specs.Steps.{Steps}
 use Rattle.hsm_replay.specs.Systems.{Run, told_next}
-use Rattle.hsm_replay.proofs.Moving.{recall_waits, migrate_waits, recall_left, migrate_left, recall_acts, migrate_acts}
-use Rattle.hsm_replay.proofs.Moving.{recall_behind_call, recall_behind_fetch, migrate_behind_call, migrate_behind_copy}
+use Rattle.hsm_replay.proofs.ActSteps.{recall_waits, migrate_waits, recall_left, migrate_left, recall_acts, migrate_acts}
+use Rattle.hsm_replay.proofs.ActSteps.{recall_behind_call, recall_behind_fetch, migrate_behind_call, migrate_behind_copy}
 
 abbrev pub is_idle : Act → Bool
 is_idle Idle = true
@@ -149,7 +149,7 @@ module _ {D M : Type 0} (g : disk.Ghosts D) (h : drive.Ghosts M) where
     recall_before : round_left Recall old ≡ left_of (length old.system.store.history) (is_told r.machine.asked (told_next r.next)) false
     recall_before = ap (λ (o : Option Recalling). recall_round old o) runs ∙ ap (λ (b : Bool). left_of (length old.system.store.history) (is_told r.machine.asked (told_next r.next)) b) (awake r.machine.asked stays)
 
-    recall_nears : (act : Act) → recaller.GoesOn r.machine (told_next r.next) act machine → Performs g h Recall (recall_waits old machine act) act new → round_left Recall new < round_left Recall old
+    recall_nears : (act : Act) → recaller.StepsOn r.machine (told_next r.next) act machine → Performs g h Recall (recall_waits old machine act) act new → round_left Recall new < round_left Recall old
     recall_nears (Dm sid c) goes performs =
         let left : System D = performs.0.1 in
         let serves = performs.0.2 in
@@ -176,7 +176,7 @@ module _ {D M : Type 0} (g : disk.Ghosts D) (h : drive.Ghosts M) where
     migrate_before : round_left Migrate old ≡ left_of (length old.system.store.history) (is_copy m.machine.asked) false
     migrate_before = ap (λ (o : Option Migrating). migrate_round old o) runs ∙ ap (λ (b : Bool). left_of (length old.system.store.history) (is_copy m.machine.asked) b) (awake m.machine.asked stays)
 
-    migrate_nears : (act : Act) → migrator.GoesOn m.machine (told_next m.next) act machine → Performs g h Migrate (migrate_waits old machine act) act new → round_left Migrate new < round_left Migrate old
+    migrate_nears : (act : Act) → migrator.StepsOn m.machine (told_next m.next) act machine → Performs g h Migrate (migrate_waits old machine act) act new → round_left Migrate new < round_left Migrate old
     migrate_nears (Dm sid c) goes performs =
         let left : System D = performs.0.1 in
         let serves = performs.0.2 in

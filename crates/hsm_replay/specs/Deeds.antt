@@ -17,7 +17,7 @@ use Rattle.plain_model.specs.declared.entries.Answer.{Answer}
 use Rattle.plain_model.specs.declared.entries.Entry.{Entry}
 use Rattle.hsm_core.specs.Store.{Store}
 use Rattle.volume_shelf.specs.Shelf.{Reads, payload_in}
-use Rattle.deeds.specs.Deeds.{Deed, Hears, IsServed, Loses}
+use Rattle.deeds.specs.Deeds.{Deed, Hears, StopsNothing, Loses}
 use Rattle.deeds.specs.Faults.{Counts, AddsFaults}
 use Rattle.deeds.specs.Given.{Given}
 use Rattle.hsm_system.specs.Goes.{Goes, HasClosed, StillWorks, WasClosed}
@@ -139,7 +139,7 @@ module _ {M : Type 0} (g : drive.Ghosts M) where
 abbrev pub MayResumeBy : (List Entry → ℕ → Type 0) → ℕ → Given → List Deed → Type 0
 MayResumeBy MayGoOn caller given deeds =
     (MayGoOn given.history caller → ⊥) × (deeds ≡ [])
-    ⊎ MayGoOn given.history caller × ((told : Answer) × IsCallerNumber caller × IsServed told × (deeds ≡ resume_of (caller, told) ∷ []))
+    ⊎ MayGoOn given.history caller × ((told : Answer) × IsCallerNumber caller × StopsNothing told × (deeds ≡ resume_of (caller, told) ∷ []))
 
 abbrev pub IsResumeCut : (List Entry → ℕ → Type 0) → ℕ → Given → Ending → List Deed → Type 0
 IsResumeCut MayGoOn caller given ending deeds = IsCallerNumber caller × MayGoOn given.history caller × IsEventCut (Caller caller) Resume ending deeds

@@ -142,8 +142,8 @@ module _ {D M : Type 0} (g : drive.Ghosts M) where
 
   -- From each marked history that shows it, entries of that kind lead on to one that shows what is left. Calls among them are made by daemons that run,
   -- which live on so.
-  abbrev pub Keeps : (List Mark → Type 0) → Run D M → Run D M → Type 0
-  Keeps IsPart old new = (opened : List M) (marks : List Mark) → Shows opened marks old → (more : List Mark) × IsPart more × Shows opened (marks ++ more) new × AreByRunning (running old) more × LiveOn old new marks more
+  abbrev pub GrowsBy : (List Mark → Type 0) → Run D M → Run D M → Type 0
+  GrowsBy IsPart old new = (opened : List M) (marks : List Mark) → Shows opened marks old → (more : List Mark) × IsPart more × Shows opened (marks ++ more) new × AreByRunning (running old) more × LiveOn old new marks more
 
   -- Where a run was stopped there may be no such entry, and nothing is said of what the daemons know.
   abbrev pub Ends : (List Mark → Type 0) → Run D M → Run D M → Type 0
@@ -156,5 +156,5 @@ pub record Moves {D M T : Type 0} (g : disk.Ghosts D) (h : drive.Ghosts M) (IsPa
   pub limits : new.system.limits ≡ old.system.limits
   pub drives : HaveGrown h old.drives new.drives
   pub runs : Runs g result old.system.store new.system.store
-  pub keeps : OnOk result (Keeps h IsPart old new)
+  pub keeps : OnOk result (GrowsBy h IsPart old new)
   pub ends : OnErr result (Ends h IsPart old new)

@@ -1,5 +1,5 @@
 pub mod Systems
-pub mod GoingOn
+pub mod ReadyCallers
 pub mod Parts
 pub mod Stopped
 pub mod Lines

@@ -11,7 +11,7 @@ use Rattle.plain_model.specs.declared.entries.Answer.TheVariants as answer
 use Rattle.plain_model.specs.declared.entries.Entry.{Entry}
 use Rattle.script_text.specs.declared.lines.Line.{Line}
 use Rattle.script_text.specs.declared.lines.Line.TheVariants.{Event, Start, Kill, Step, Settle}
-use Rattle.deeds.specs.Deeds.{entry_of, Deed, Enters, Hears, Breaks, Loses, call_told, entries_of, IsServed}
+use Rattle.deeds.specs.Deeds.{entry_of, Deed, Enters, Hears, Breaks, Loses, call_told, entries_of, StopsNothing}
 use Rattle.deeds.specs.Given.{Given}
 use Rattle.hsm_replay.specs.Parts as parts
 
@@ -49,8 +49,8 @@ FollowsSo quiet MayGoOn lines deeds = (given : Given) → parts.Follows quiet Ma
 
 -- each entry of it is one behind which a run goes on, no call is broken, and nothing that a daemon was to hear is lost
 abbrev pub IsWhole : Deed → Type 0
-IsWhole (Enters e) = IsServed e.answer
-IsWhole (Hears daemon asked told) = IfSome (call_told asked told) (λ (e : Entry). IsServed e.answer)
+IsWhole (Enters e) = StopsNothing e.answer
+IsWhole (Hears daemon asked told) = IfSome (call_told asked told) (λ (e : Entry). StopsNothing e.answer)
 IsWhole (Breaks daemon sid call) = ⊥
 IsWhole (Loses daemon) = ⊥
 IsWhole deed = Unit {0}

@@ -18,7 +18,7 @@ use Rattle.plain_model.specs.declared.entries.Answer.{Answer}
 use Rattle.plain_model.specs.declared.entries.Entry.{Entry}
 use Rattle.script_text.specs.declared.lines.Line.{Line}
 use Rattle.script_text.specs.declared.lines.Line.TheVariants.{Event, Start, Kill, Step, Settle}
-use Rattle.deeds.specs.Deeds.{entry_of, Deed, Enters, Starts, Kills, Refreshes, Gives, Hears, entries_of, Fits, IsServed}
+use Rattle.deeds.specs.Deeds.{entry_of, Deed, Enters, Starts, Kills, Refreshes, Gives, Hears, entries_of, Fits, StopsNothing}
 use Rattle.deeds.specs.Given.{Given, given_of, given_behind}
 
 -- ---- acts
@@ -96,7 +96,7 @@ pub record AreResumes (MayGoOn : List Entry → ℕ → Type 0) (given : Given) 
   pub numbers : All IsCallerNumber (keys_of told)
   pub ascend : IsStrictlySortedBy nat_cmp (keys_of told)
   pub ready : (caller : ℕ) → IsCallerNumber caller → ResumesInTurn MayGoOn given.history told caller
-  pub served : All (λ (x : ℕ × Answer). IsServed x.1) told
+  pub served : All (λ (x : ℕ × Answer). StopsNothing x.1) told
 
 abbrev pub joined : List (List Deed) → List Deed
 joined parts = flat_map (λ (part : List Deed). part) parts
@@ -151,7 +151,7 @@ module _ (quiet : Entry → Bool) (MayGoOn : List Entry → ℕ → Type 0) wher
 
   -- the deeds are those of the line, by what daemons gave last before it
   abbrev pub IsPartOf : Given → Line → List Deed → Type 0
-  IsPartOf given (Event actor asked seed) deeds = (told : Answer) × IsServed told × (deeds ≡ Enters (entry_of actor asked told) ∷ [])
+  IsPartOf given (Event actor asked seed) deeds = (told : Answer) × StopsNothing told × (deeds ≡ Enters (entry_of actor asked told) ∷ [])
   IsPartOf given (Start daemon) deeds = deeds ≡ Starts daemon ∷ []
   IsPartOf given (Kill daemon) deeds = deeds ≡ Kills daemon ∷ []
   IsPartOf given (Step daemon) deeds = IsStep daemon given deeds

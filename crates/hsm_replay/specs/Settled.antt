@@ -48,7 +48,7 @@ EndsTurn seat actor action answer = ⊥
 abbrev pub IsTurn : Seat → List Entry → Type 0
 IsTurn seat entries = (first : List Entry) × (last : Entry) × (entries ≡ first ++ last ∷ []) × EndsTurn seat last.actor last.action last.answer
 
-pub record RecallRests (entries : List Entry) (m : recall.Machine) : Type 0 where
+pub record RecallEndedTurn (entries : List Entry) (m : recall.Machine) : Type 0 where
   pub rests : m.asked ≡ Idle
   pub turn : IsTurn m.known.seat entries
 
@@ -61,7 +61,7 @@ abbrev pub NoneDue : Numbers → List Entry → Bool → Type 0
 NoneDue limits entries fresh = (fresh ≡ false) ⊎ ((space : Space) × IsToldSpace entries space × (is_above limits.high (Some space) ≡ false))
 
 -- It keeps no event, and where it has a session no pass is due.
-pub record MigrateRests (limits : Numbers) (entries : List Entry) (m : migrate.Machine) : Type 0 where
+pub record MigrateEndedTurn (limits : Numbers) (entries : List Entry) (m : migrate.Machine) : Type 0 where
   pub rests : m.asked ≡ Idle
   pub turn : IsTurn m.known.seat entries
   pub none : m.known.seat.kept ≡ []
@@ -69,13 +69,13 @@ pub record MigrateRests (limits : Numbers) (entries : List Entry) (m : migrate.M
 
 -- the turn of the daemon where it runs, which rests now
 abbrev pub IsTurnOf : {D M : Type 0} → Daemon → Run D M → List Entry → Type 0
-IsTurnOf Recall s entries = IfSome s.system.recall (λ r. RecallRests entries r.machine)
-IsTurnOf Migrate s entries = IfSome s.system.migrate (λ m. MigrateRests s.system.limits entries m.machine)
+IsTurnOf Recall s entries = IfSome s.system.recall (λ r. RecallEndedTurn entries r.machine)
+IsTurnOf Migrate s entries = IfSome s.system.migrate (λ m. MigrateEndedTurn s.system.limits entries m.machine)
 
 -- ---- why recall keeps events
 
 -- Its session asked for the right to a file of which it was told under the token. It was refused, as another token had a right there, and has it now.
-pub record IsHeldUp (entries : List Entry) (rights : Rights) (seat : Seat) (t : Token) : Type 0 where
+pub record IsStillRefused (entries : List Entry) (rights : Rights) (seat : Seat) (t : Token) : Type 0 where
   pub sid : Sid
   pub handle : Handle
   pub holder : Token
@@ -85,8 +85,8 @@ pub record IsHeldUp (entries : List Entry) (rights : Rights) (seat : Seat) (t : 
   pub holds : conflict handle.key Excl t rights ≡ Some holder
 
 -- each event that it keeps
-abbrev pub AreHeldUp : List Entry → Rights → Seat → Type 0
-AreHeldUp entries rights seat = AllByRecursion (λ (k : Kept). IsHeldUp entries rights seat k.event.token) seat.kept
+abbrev pub AreStillRefused : List Entry → Rights → Seat → Type 0
+AreStillRefused entries rights seat = AllByRecursion (λ (k : Kept). IsStillRefused entries rights seat k.event.token) seat.kept
 
 -- ---- the end of a settling
 
@@ -103,7 +103,7 @@ pub record EndsQuietly {D M : Type 0} (from : List Entry) (s : Run D M) : Type 0
   pub quiet : list_all is_quiet (recall_turn ++ migrate_turn) ≡ true
   pub recall : IsTurnOf Recall s recall_turn
   pub migrate : IsTurnOf Migrate s migrate_turn
-  pub held_up : IfSome s.system.recall (λ r. AreHeldUp recall_turn (state_of s.system.store).rights r.machine.known.seat)
+  pub held_up : IfSome s.system.recall (λ r. AreStillRefused recall_turn (state_of s.system.store).rights r.machine.known.seat)
   pub ready : NoneReady s.system.store
 
 -- the last round ended so

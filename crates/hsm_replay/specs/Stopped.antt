@@ -19,7 +19,7 @@ use Rattle.plain_model.specs.declared.entries.Answer.{Answer}
 use Rattle.plain_model.specs.declared.entries.Entry.{Entry}
 use Rattle.script_text.specs.declared.lines.Line.{Line}
 use Rattle.script_text.specs.declared.lines.Line.TheVariants.{Event, Start, Kill, Step, Settle}
-use Rattle.deeds.specs.Deeds.{entry_of, Deed, Enters, Refreshes, Gives, Breaks, Loses, IsServed}
+use Rattle.deeds.specs.Deeds.{entry_of, Deed, Enters, Refreshes, Gives, Breaks, Loses, StopsNothing}
 use Rattle.deeds.specs.Given.{Given, given_of, given_behind}
 use Rattle.hsm_replay.specs.Parts.{Exchange, done_by, IsWork, IsUpToRest, IsTurn, AreResumes, ResumesInTurn, resume_of, entries_below}
 use Rattle.hsm_replay.specs.Parts.{joined, are_quiet, AreBusy, Follows}
@@ -93,7 +93,7 @@ pub record AreResumesCut (MayGoOn : List Entry → ℕ → Type 0) (given : Give
   pub ascend : IsStrictlySortedBy nat_cmp (keys_of told ++ caller ∷ [])
   pub ready : (lower : ℕ) → IsCallerNumber lower → lower < caller → ResumesInTurn MayGoOn given.history told lower
   pub may : MayGoOn (given.history ++ entries_below caller told) caller
-  pub served : All (λ (x : ℕ × Answer). IsServed x.1) told
+  pub served : All (λ (x : ℕ × Answer). StopsNothing x.1) told
   pub cut : IsEventCut (Caller caller) Resume ending last
 
 -- Asked of whoever reads: which entries are quiet, and whose access may go on behind entries.

@@ -27,7 +27,7 @@ use Rattle.hsm_system.specs.Asking.{RecallAsks, MigrateAsks}
 use Rattle.hsm_system.specs.Systems.{Rests}
 use Rattle.hsm_replay.specs.Freshness.{StaysFresh}
 use Rattle.marked_history.specs.Quiet.{is_quiet}
-use Rattle.hsm_replay.specs.Settled.{IsTurnOf, IsToldSpace, IsHeldUp, AreHeldUp, NoneReady}
+use Rattle.hsm_replay.specs.Settled.{IsTurnOf, IsToldSpace, IsStillRefused, AreStillRefused, NoneReady}
 use Rattle.hsm_replay.specs.Systems.{Run, running, told_next}
 
 -- It hears the answer of the last entry next, or what came of a copy or a fetch, or it rests.
@@ -50,7 +50,7 @@ IsEarly act = Unit {0}
 pub record IsKeptBack (entries : List Entry) (rights : Rights) (k : recall.Known) (asked : Act) : Type 0 where
   pub early : IsEarly asked
   pub unsized : IfSome k.hand (λ (hand : recall.Hand). hand.size ≡ None)
-  pub held_up : AllByRecursion (λ (x : Kept). x.marked ≡ true → IsHeldUp entries rights k.seat x.event.token) k.seat.kept
+  pub held_up : AllByRecursion (λ (x : Kept). x.marked ≡ true → IsStillRefused entries rights k.seat x.event.token) k.seat.kept
 
 pub record RecallStands (entries : List Entry) (rights : Rights) (r : Recalling) : Type 0 where
   pub asks : RecallAsks r.machine
@@ -71,7 +71,7 @@ StandsIn Migrate entries s = IfSome s.system.migrate (MigrateStands s.system.lim
 
 -- what recall keeps is held up
 abbrev pub LeavesHeldUp : {D M : Type 0} → Daemon → List Entry → Run D M → Type 0
-LeavesHeldUp Recall entries s = IfSome s.system.recall (λ r. AreHeldUp entries (state_of s.system.store).rights r.machine.known.seat)
+LeavesHeldUp Recall entries s = IfSome s.system.recall (λ r. AreStillRefused entries (state_of s.system.store).rights r.machine.known.seat)
 LeavesHeldUp Migrate entries s = Unit {0}
 
 -- a turn is over, and where it was quiet recall keeps only what was held up

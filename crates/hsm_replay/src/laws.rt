@@ -7,7 +7,7 @@ ghost use Rattle.plain_model.specs.declared.entries.Entry.{Entry};
 ghost use Rattle.script_text.specs.declared.lines.Line.{Line};
 ghost use Rattle.hsm_core.specs.Store.{Store};
 ghost use Rattle.hsm_replay.specs.Deeds.{RunsOn};
-ghost use Rattle.hsm_replay.specs.GoingOn.{MayGoOn};
+ghost use Rattle.hsm_replay.specs.ReadyCallers.{MayGoOn};
 ghost use Rattle.hsm_replay.specs.Lines.{FollowsSo, FollowsWhole};
 ghost use Rattle.hsm_replay.specs.Parts.{FollowsOn, RunsByLines};
 ghost use Rattle.hsm_replay.specs.Stopped.{StopsOn};

@@ -5,7 +5,7 @@ ghost use Rattle.script_text.specs.declared.lines.Line.TheVariants.{Event};
 ghost use Rattle.marked_history.specs.Follows.{IsPartOf};
 ghost use Rattle.marked_history.specs.Quiet.{is_quiet};
 ghost use Rattle.hsm_replay.specs.Deeds.{ByDeeds};
-ghost use Rattle.hsm_replay.specs.GoingOn.{MayGoOn};
+ghost use Rattle.hsm_replay.specs.ReadyCallers.{MayGoOn};
 ghost use Rattle.hsm_replay.specs.Keeping.{Moves};
 ghost use Rattle.hsm_replay.specs.Parts.{IsLinePart};
 ghost use Rattle.hsm_replay.specs.Stopped.{IsLineCut};

@@ -10,7 +10,7 @@ ghost use Rattle.hsm_system.specs.Asking.{MigrateIsRight, RecallIsRight};
 ghost use Rattle.hsm_system.specs.Systems.{Rests};
 ghost use Rattle.deeds.specs.Deeds.{Kills, Refreshes, Starts};
 ghost use Rattle.hsm_replay.specs.Deeds.{ByDeeds, IsResumeCut, MayResumeBy, RunsBy};
-ghost use Rattle.hsm_replay.specs.GoingOn.{MayGoOn};
+ghost use Rattle.hsm_replay.specs.ReadyCallers.{MayGoOn};
 ghost use Rattle.hsm_replay.specs.Keeping.{Moves};
 ghost use Rattle.hsm_replay.specs.Parts.{IsStep};
 ghost use Rattle.hsm_replay.specs.Stopped.{IsStepCut};

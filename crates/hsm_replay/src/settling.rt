@@ -5,7 +5,7 @@ ghost use Rattle.hsm_types.specs.Callers.{IsCallerNumber};
 ghost use Rattle.marked_history.specs.Follows.{IsMadeBy, IsOfSettling};
 ghost use Rattle.hsm_replay.specs.Deeds.{ByDeeds, IsResumeCut, IsRoundOf, MayResumeBy};
 ghost use Rattle.hsm_replay.specs.Freshness.{StaysFresh};
-ghost use Rattle.hsm_replay.specs.GoingOn.{MayGoOn};
+ghost use Rattle.hsm_replay.specs.ReadyCallers.{MayGoOn};
 ghost use Rattle.hsm_replay.specs.Keeping.{Moves};
 ghost use Rattle.hsm_replay.specs.Parts.{AreResumes, IsLeft, IsSettle, IsTurn};
 ghost use Rattle.hsm_replay.specs.Stopped.{AreResumesCut, IsLeftCut, IsRoundCut, IsSettleCut, IsTurnCut};

@@ -21,7 +21,7 @@ use std::thread::Threads;
 
 /// What the machine under the lock does next, where it hears nothing.
 fn ask_recaller<R: Wait>(rt: &R, locked: &Mutex<Recaller>) -> Result<Act, AllocError>
-    ensures { (old : recall.Machine) × (new : recall.Machine) × IfOk result (λ act. recall.GoesOn old Nothing act new) × OnErr result (new ≡ old) }
+    ensures { (old : recall.Machine) × (new : recall.Machine) × IfOk result (λ act. recall.StepsOn old Nothing act new) × OnErr result (new ≡ old) }
 {
     locked.lock(rt).next(Heard::Nothing)
 }
@@ -31,14 +31,14 @@ fn ask_recaller_elsewhere<R: Threads + Wait + Sync>(
     rt: &R,
     recaller: Recaller,
 ) -> (Result<Act, AllocError>, Recaller)
-    ensures { (old : recall.Machine) × (new : recall.Machine) × IfOk result.0 (λ act. recall.GoesOn old Nothing act new) × OnErr result.0 (new ≡ old) }
+    ensures { (old : recall.Machine) × (new : recall.Machine) × IfOk result.0 (λ act. recall.StepsOn old Nothing act new) × OnErr result.0 (new ≡ old) }
 {
     let locked = Mutex::new(recaller);
     let shared = &locked;
     let (act, ()) = thread::join(
         rt,
         || -> Result<Act, AllocError>
-            ensures { (old : recall.Machine) × (new : recall.Machine) × IfOk result (λ act. recall.GoesOn old Nothing act new) × OnErr result (new ≡ old) }
+            ensures { (old : recall.Machine) × (new : recall.Machine) × IfOk result (λ act. recall.StepsOn old Nothing act new) × OnErr result (new ≡ old) }
         { ask_recaller(rt, shared) },
         || (),
     );
@@ -47,7 +47,7 @@ fn ask_recaller_elsewhere<R: Threads + Wait + Sync>(
 
 /// What the machine under the lock does next, where it hears nothing.
 fn ask_migrator<R: Wait>(rt: &R, locked: &Mutex<Migrator>) -> Result<Act, AllocError>
-    ensures { (old : migrate.Machine) × (new : migrate.Machine) × IfOk result (λ act. migrate.GoesOn old Nothing act new) × OnErr result (new ≡ old) }
+    ensures { (old : migrate.Machine) × (new : migrate.Machine) × IfOk result (λ act. migrate.StepsOn old Nothing act new) × OnErr result (new ≡ old) }
 {
     locked.lock(rt).next(Heard::Nothing)
 }
@@ -57,14 +57,14 @@ fn ask_migrator_elsewhere<R: Threads + Wait + Sync>(
     rt: &R,
     migrator: Migrator,
 ) -> (Result<Act, AllocError>, Migrator)
-    ensures { (old : migrate.Machine) × (new : migrate.Machine) × IfOk result.0 (λ act. migrate.GoesOn old Nothing act new) × OnErr result.0 (new ≡ old) }
+    ensures { (old : migrate.Machine) × (new : migrate.Machine) × IfOk result.0 (λ act. migrate.StepsOn old Nothing act new) × OnErr result.0 (new ≡ old) }
 {
     let locked = Mutex::new(migrator);
     let shared = &locked;
     let (act, ()) = thread::join(
         rt,
         || -> Result<Act, AllocError>
-            ensures { (old : migrate.Machine) × (new : migrate.Machine) × IfOk result (λ act. migrate.GoesOn old Nothing act new) × OnErr result (new ≡ old) }
+            ensures { (old : migrate.Machine) × (new : migrate.Machine) × IfOk result (λ act. migrate.StepsOn old Nothing act new) × OnErr result (new ≡ old) }
         { ask_migrator(rt, shared) },
         || (),
     );

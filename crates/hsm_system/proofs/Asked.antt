@@ -48,7 +48,7 @@ module _ (old : recaller.Machine) (told : Heard) (asks : RecallAsks old) where
   free_on Idle may = (rest_hand may, none_put_off knows_now.seat.kept)
   free_on act may = tt
 
-  pub recall_asks_on : (act : Act) (new : recaller.Machine) → recaller.GoesOn old told act new → RecallAsks new
+  pub recall_asks_on : (act : Act) (new : recaller.Machine) → recaller.StepsOn old told act new → RecallAsks new
   recall_asks_on act new goes = record {
     seat = subst (λ (k : recall.Known). AsksFrom k.seat new.asked) (sym goes.known) (subst (λ (a : Act). AsksFrom (recall.asks_by knows_now act).seat a) (sym goes.asked) (seat_on act goes.may));
     free = subst (λ (k : recall.Known). IsEmptyHanded k new.asked) (sym goes.known) (subst (λ (a : Act). IsEmptyHanded (recall.asks_by knows_now act) a) (sym goes.asked) (free_on act goes.may));
@@ -69,7 +69,7 @@ module _ (old : migrator.Machine) (told : Heard) where
   migrate_seat_on pass (Dm sid (CreateSession previous info)) may = refl
   migrate_seat_on pass act may = tt
 
-  pub migrate_asks_on : (limits : Numbers) (act : Act) (new : migrator.Machine) → MigrateAsks limits old → migrator.GoesOn old told act new → MigrateAsks limits new
+  pub migrate_asks_on : (limits : Numbers) (act : Act) (new : migrator.Machine) → MigrateAsks limits old → migrator.StepsOn old told act new → MigrateAsks limits new
   migrate_asks_on limits act new asks goes = record {
     counts = goes.limits ∙ asks.counts;
     seat = subst (λ (k : migrate.Known). AsksFrom k.seat new.asked) (sym goes.known) (subst (λ (a : Act). AsksFrom (migrate.asks_by (migrate_knows old told) act).seat a) (sym goes.asked) (migrate_seat_on new.pass act goes.may));

@@ -20,7 +20,7 @@ use Rattle.file_store.specs.Stores.{superblock_of}
 use Rattle.hsm_core.specs.Answers.{entry_of, IsDone, IsTold}
 use Rattle.hsm_core.specs.Store.{Store, state_of}
 use Rattle.hsm_system.specs.Acts.{AddsCall, Answers, IsCall, KeepsStop, StopsFor}
-use Rattle.hsm_system.specs.Stops.{reply_of, IsServed}
+use Rattle.hsm_system.specs.Stops.{reply_of, StopsNothing}
 use Rattle.hsm_system.specs.Systems.{System, hearing}
 use Rattle.hsm_system.specs.declared.stops.Stop.{Stop}
 use Rattle.hsm_system.specs.declared.stops.Stop.TheVariants as stop
@@ -29,7 +29,7 @@ module _ {D : Type 0} (g : disk.Ghosts D) (old : Store D) (sid : Sid) (call : Dm
   done_reply : (reply : DmReply) (new : Store D) → IsDone g old (Session sid) (Dm call) (Told reply) new → is_undone (Told reply) ≡ false
   done_reply reply new done = seen_done (Tells g new.files.disk) (superblock_of old.opened) (state_of old) (Session sid) (Dm call) (Told reply) done.answer
 
-  told_served : (reply : DmReply) (new : Store D) → IsTold g old sid call reply new → IsServed reply → AddsCall sid call reply old new × (new.files.failed ≡ false)
+  told_served : (reply : DmReply) (new : Store D) → IsTold g old sid call reply new → StopsNothing reply → AddsCall sid call reply old new × (new.files.failed ≡ false)
   told_served reply new (inl closed) served = let given : Told reply ≡ Told (Refused dm.Disk) = closed.answer in absurd (served stop.Disk (let is : reply ≡ Refused dm.Disk = cc given in is))
   told_served reply new (inr (inl lacks)) served = let given : Told reply ≡ Told (Refused dm.Memory) = lacks.answer in absurd (served stop.Memory (let is : reply ≡ Refused dm.Memory = cc given in is))
   told_served reply new (inr (inr (inl failed))) served = let given : Told reply ≡ Told (Refused dm.Disk) = failed.answer in absurd (served stop.Disk (let is : reply ≡ Refused dm.Disk = cc given in is))
@@ -46,7 +46,7 @@ module _ {D : Type 0} (g : disk.Ghosts D) (old : Store D) (sid : Sid) (call : Dm
   told_stopped stop.Memory new (inr (inr (inr done))) = let wrong : true ≡ false = done_reply (Refused dm.Memory) new done in cc wrong
 
 module _ {D : Type 0} (g : disk.Ghosts D) (daemon : Daemon) (sid : Sid) (call : DmCall) (reply : DmReply) (here old : System D) (same : here ≡ old) (store : Store D) (made : IsCall g sid call reply here (record here { store = store })) (new : System D) where
-  pub answers : (told : Heard) → (told ≡ heard.Dm reply) × IsServed reply → new ≡ hearing daemon told (record here { store = store }) → Answers g daemon sid call old new
+  pub answers : (told : Heard) → (told ≡ heard.Dm reply) × StopsNothing reply → new ≡ hearing daemon told (record here { store = store }) → Answers g daemon sid call old new
   answers told is hears = subst (λ (s : System D). Answers g daemon sid call s new) same (
       let kept = told_served g here.store sid call reply store made.told is.1 in
       (reply, record here { store = store }, record { made = made; served = is.1; added = kept.0; still = kept.1 }, hears ∙ ap (λ (h : Heard). hearing daemon h (record here { store = store })) is.0)

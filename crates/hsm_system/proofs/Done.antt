@@ -25,14 +25,14 @@ use Rattle.hsm_core.specs.Answers.{IsAnswer}
 use Rattle.hsm_core.specs.Crashes.{IsSafeNow}
 use Rattle.hsm_core.specs.Outcomes.{is_abort, is_aborted, IfAborted}
 use Rattle.hsm_core.specs.Store.{Store, KeepsRoom}
-use Rattle.hsm_system.specs.Events.{IsDone, IsSure, Keeps, action_of, actor_of, room_of}
-use Rattle.hsm_system.specs.Stops.{reply_of, call_reply_of, stop_answer, IsServed}
+use Rattle.hsm_system.specs.Events.{IsDone, IsSure, IsSafelyDone, action_of, actor_of, room_of}
+use Rattle.hsm_system.specs.Stops.{reply_of, call_reply_of, stop_answer, StopsNothing}
 use Rattle.hsm_system.specs.Systems.{System}
 use Rattle.hsm_system.specs.declared.events.Event.{Event}
 use Rattle.hsm_system.specs.declared.events.Event.TheVariants as event
 use Rattle.hsm_system.specs.declared.stops.Stop.{Stop}
 use Rattle.hsm_system.specs.declared.stops.Stop.TheVariants as stop
-use Rattle.hsm_system.proofs.Going.{event_kept, event_runs}
+use Rattle.hsm_system.proofs.AfterEvents.{event_kept, event_runs}
 
 -- ---- answers at which a run stops
 
@@ -58,7 +58,7 @@ replied_goes : (reply : Reply) (action : Action) → IsOfCaller action → (repl
 replied_goes reply action of goes stop.Disk is = let wrong : Replied reply ≡ Replied (calls.Refused refusal.Disk) = is ∙ caller_stop stop.Disk action of in goes.1 (let same : reply ≡ calls.Refused refusal.Disk = cc wrong in same)
 replied_goes reply action of goes stop.Memory is = let wrong : Replied reply ≡ Replied (calls.Refused refusal.Memory) = is ∙ caller_stop stop.Memory action of in goes.0 (let same : reply ≡ calls.Refused refusal.Memory = cc wrong in same)
 
-told_goes : (reply : DmReply) (asked : DmCall) → IsServed reply → (why : Stop) → Told reply ≢ stop_answer why (Dm asked)
+told_goes : (reply : DmReply) (asked : DmCall) → StopsNothing reply → (why : Stop) → Told reply ≢ stop_answer why (Dm asked)
 told_goes reply asked served why is = let wrong : Told reply ≡ Told (reply_of why) = is ∙ sym (session_stop why asked) in served why (let same : reply ≡ reply_of why = cc wrong in same)
 
 -- ---- an event
@@ -81,7 +81,7 @@ module _ {D : Type 0} (g : disk.Ghosts D) (here old : System D) (same : here ≡
 
   -- or as a session is
   pub told : (asked : DmCall) (reply : DmReply) → IsAnswer g here.store actor (Dm asked) (Told reply) store → (result : Result (Unit {0}) Stop)
-      → OnOk result (IsServed reply) → IfErr result (λ why. reply ≡ reply_of why) → IsDone g actor (Dm asked) result old (record here { store = store })
+      → OnOk result (StopsNothing reply) → IfErr result (λ why. reply ≡ reply_of why) → IsDone g actor (Dm asked) result old (record here { store = store })
   told asked reply answers (Ok tt) ok err = goes_on (Dm asked) (Told reply) answers (told_goes reply asked ok)
   told asked reply answers (Err why) ok err = stopped (Dm asked) (Told reply) answers why (ap (λ (r : DmReply). Told r) err ∙ session_stop why asked)
 
@@ -108,19 +108,19 @@ done_sure reply (Err stop.Disk) is stopped = let wrong : Done ≡ reply_of stop.
 done_sure reply (Err stop.Memory) is stopped = let wrong : Done ≡ reply_of stop.Memory = sym is ∙ stopped in cc wrong
 
 module _ {D : Type 0} (g : disk.Ghosts D) (here old : System D) (same : here ≡ old) (new : Store D) (result : Result (Unit {0}) Stop) (safe : IsSafeNow g new) (keeps : KeepsRoom here.store new) where
-  kept : (asked : Event) → (IsSure asked here.store → here.store.files.failed ≡ false → IsOk result) → here.store.spare ≤ new.spare + room_of asked here.store → Keeps g asked result old.store new
-  kept asked sure room = subst (λ (s : System D). Keeps g asked result s.store new) same (record { sure = sure; safe = safe; room = room; keeps = keeps })
+  kept : (asked : Event) → (IsSure asked here.store → here.store.files.failed ≡ false → IsOk result) → here.store.spare ≤ new.spare + room_of asked here.store → IsSafelyDone g asked result old.store new
+  kept asked sure room = subst (λ (s : System D). IsSafelyDone g asked result s.store new) same (record { sure = sure; safe = safe; room = room; keeps = keeps })
 
-  pub issue_keeps : (caller : ℕ) (call : Call) → here.store.spare ≤ new.spare + 3 → Keeps g (event.Issue caller call) result old.store new
+  pub issue_keeps : (caller : ℕ) (call : Call) → here.store.spare ≤ new.spare + 3 → IsSafelyDone g (event.Issue caller call) result old.store new
   issue_keeps caller call room = kept (event.Issue caller call) (λ is working. absurd is) room
 
   pub resume_keeps : (caller : ℕ) (reply : Reply) → here.store.spare ≤ new.spare + (if is_aborted (waiting here.store.tables caller) then 0 else 2)
-      → (here.store.files.failed ≡ false → IfAborted (waiting here.store.tables caller) (λ why. reply ≡ calls.Refused why)) → IfErr result (λ why. reply ≡ call_reply_of why) → Keeps g (event.Resume caller) result old.store new
+      → (here.store.files.failed ≡ false → IfAborted (waiting here.store.tables caller) (λ why. reply ≡ calls.Refused why)) → IfErr result (λ why. reply ≡ call_reply_of why) → IsSafelyDone g (event.Resume caller) result old.store new
   resume_keeps caller reply room aborts stopped = kept (event.Resume caller) (λ is working. resume_sure (waiting here.store.tables caller) reply result is (aborts working) stopped) room
 
   pub dm_keeps : (sid : Sid) (call : DmCall) (reply : DmReply) → here.store.spare ≤ new.spare + entries_for here.store.tables.sessions sid call
-      → (is_due here.store.tables.sessions sid call ≡ true → here.store.files.failed ≡ false → reply ≡ Done) → IfErr result (λ why. reply ≡ reply_of why) → Keeps g (event.Dm sid call) result old.store new
+      → (is_due here.store.tables.sessions sid call ≡ true → here.store.files.failed ≡ false → reply ≡ Done) → IfErr result (λ why. reply ≡ reply_of why) → IsSafelyDone g (event.Dm sid call) result old.store new
   dm_keeps sid call reply room responds stopped = kept (event.Dm sid call) (λ is working. done_sure reply result (responds is working) stopped) room
 
-  pub commit_keeps : here.store.spare ≤ new.spare + 1 → Keeps g event.Commit result old.store new
+  pub commit_keeps : here.store.spare ≤ new.spare + 1 → IsSafelyDone g event.Commit result old.store new
   commit_keeps room = kept event.Commit (λ is working. absurd is) room

@@ -34,9 +34,9 @@ module _ {M : Type 0} (asked : M → Act) (may_hear : Heard → Type 0) (Knows :
   heard_within (Some r) sound = sound.within
 
   -- where it gives an act, by what it knows behind a step
-  module _ (GoesOn : M → Heard → Act → M → Type 0) (gives : (old : M) (told : Heard) (act : Act) (new : M) → GoesOn old told act new → asked new ≡ act) (knows_on : (old : M) (told : Heard) (act : Act) (new : M) → GoesOn old told act new → Knows old → Knows new) where
+  module _ (StepsOn : M → Heard → Act → M → Type 0) (gives : (old : M) (told : Heard) (act : Act) (new : M) → StepsOn old told act new → asked new ≡ act) (knows_on : (old : M) (told : Heard) (act : Act) (new : M) → StepsOn old told act new → Knows old → Knows new) where
     asks_sound : (old new : Option (Running M)) (result : Result (Option Act) Stop) → may_hear Nothing
-        → IfOk result (λ given. Gives GoesOn old given new) → IfErr result (λ why. Loses old why new) → Sound old → Sound new
+        → IfOk result (λ given. Gives StepsOn old given new) → IfErr result (λ why. Loses old why new) → Sound old → Sound new
     asks_sound old new (Ok None) may is lacks sound = subst Sound (sym is.1) sound
     asks_sound old new (Ok (Some act)) may is lacks sound =
         let before : IsSound asked may_hear Knows is.0 = subst Sound is.3 sound in
@@ -53,8 +53,8 @@ pub recall_hears : (told : Heard) (o : Option Recalling) → IfSome o IsSoundRec
 recall_hears told = hears_sound _ _ _ told tt
 
 pub recall_asks : (old new : Option Recalling) (result : Result (Option Act) Stop)
-    → IfOk result (λ given. Gives recall.GoesOn old given new) → IfErr result (λ why. Loses old why new) → IfSome old IsSoundRecall → IfSome new IsSoundRecall
-recall_asks old new result = asks_sound _ _ _ recall.GoesOn (λ m told act n goes. goes.asked) (λ m told act n goes knows. recall_asks_on m told knows act n goes) old new result tt
+    → IfOk result (λ given. Gives recall.StepsOn old given new) → IfErr result (λ why. Loses old why new) → IfSome old IsSoundRecall → IfSome new IsSoundRecall
+recall_asks old new result = asks_sound _ _ _ recall.StepsOn (λ m told act n goes. goes.asked) (λ m told act n goes knows. recall_asks_on m told knows act n goes) old new result tt
 
 -- ---- migration
 
@@ -82,12 +82,12 @@ module _ (limits : Numbers) where
   pub migrate_hears : (told : Heard) → migrate.IsWithin told → (o : Option Migrating) → IfSome o (IsSoundMigrate limits) → IfSome (option_map (hears_next told) o) (IsSoundMigrate limits)
   migrate_hears told may = hears_sound _ _ _ told may
 
-  knows_on : (old : migrate.Machine) (told : Heard) (act : Act) (new : migrate.Machine) → migrate.GoesOn old told act new → Knows old → Knows new
+  knows_on : (old : migrate.Machine) (told : Heard) (act : Act) (new : migrate.Machine) → migrate.StepsOn old told act new → Knows old → Knows new
   knows_on old told act new goes knows = (migrate_asks_on old told limits act new knows.0 goes, subst AsksNoValue (sym goes.asked) (asks_none old.limits _ old.pass new.pass old.asked told act goes.may))
 
   pub migrate_asks : (old new : Option Migrating) (result : Result (Option Act) Stop)
-      → IfOk result (λ given. Gives migrate.GoesOn old given new) → IfErr result (λ why. Loses old why new) → IfSome old (IsSoundMigrate limits) → IfSome new (IsSoundMigrate limits)
-  migrate_asks old new result = asks_sound _ _ _ migrate.GoesOn (λ m told act n goes. goes.asked) knows_on old new result tt
+      → IfOk result (λ given. Gives migrate.StepsOn old given new) → IfErr result (λ why. Loses old why new) → IfSome old (IsSoundMigrate limits) → IfSome new (IsSoundMigrate limits)
+  migrate_asks old new result = asks_sound _ _ _ migrate.StepsOn (λ m told act n goes. goes.asked) knows_on old new result tt
 
   pub migrate_renews : (o : Option Migrating) → IfSome o (IsSoundMigrate limits) → IfSome (option_map migrate_again o) (IsSoundMigrate limits)
   migrate_renews None sound = tt

@@ -45,7 +45,7 @@ use Rattle.hsm_system.specs.declared.stops.Stop.{Stop}
 use Rattle.hsm_system.specs.declared.stops.Stop.TheVariants as stop
 use Rattle.deeds.proofs.Leading.{leads_on}
 use Rattle.hsm_system.proofs.Done.{session_stop}
-use Rattle.hsm_system.proofs.Going.{StoreEnds, event_ends, event_served, event_works}
+use Rattle.hsm_system.proofs.AfterEvents.{StoreEnds, event_ends, event_served, event_works}
 use Rattle.hsm_system.proofs.Outcomes.{outcome_fits}
 use Rattle.hsm_system.proofs.Waiting.{awaits_one}
 
@@ -74,7 +74,7 @@ module _ {M : Type 0} where
     begins None = refl
     begins (Some r) = refl
 
-    asks : (act : Act) (o : Option (Running M)) (r : Running M) (told : Heard) (machine : M) → o ≡ Some r → r.next ≡ HearsNext told → w.GoesOn r.machine told act machine → To (Asks act) o (Some (record { machine = machine; next = WaitsOn (awaited_of act) }))
+    asks : (act : Act) (o : Option (Running M)) (r : Running M) (told : Heard) (machine : M) → o ≡ Some r → r.next ≡ HearsNext told → w.StepsOn r.machine told act machine → To (Asks act) o (Some (record { machine = machine; next = WaitsOn (awaited_of act) }))
     asks act o r told machine runs hears goes = (r.machine, told, machine, runs_as o r (Some told) runs (ap heard_next hears), goes, refl)
 
     learns : (act : Act) (told : Heard) (o : Option (Running M)) → AwaitsNow w.asked act o → Fits act told → To (Learns act told) o (option_map (hears_next told) o)

@@ -1,10 +1,10 @@
 pub mod Asked
 pub mod Calls
 pub mod Done
-pub mod Going
+pub mod AfterEvents
 pub mod Keeping
 pub mod Leading
-pub mod Moving
+pub mod DaemonActs
 pub mod Outcomes
 pub mod Sending
 pub mod Within

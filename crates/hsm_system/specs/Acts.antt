@@ -19,7 +19,7 @@ use Rattle.hsm_core.specs.Crashes.{IsSafeNow}
 use Rattle.hsm_core.specs.Store.{Store, KeepsRoom}
 use Rattle.recall_daemon.specs.Machine as recall
 use Rattle.migrate_daemon.specs.Machine as migrate
-use Rattle.hsm_system.specs.Stops.{reply_of, IsServed}
+use Rattle.hsm_system.specs.Stops.{reply_of, StopsNothing}
 use Rattle.hsm_system.specs.Systems.{System, IsDown, Waits, hearing}
 use Rattle.hsm_system.specs.Running.{Recalling, Migrating, Moves}
 use Rattle.hsm_system.specs.declared.stops.Stop.{Stop}
@@ -33,8 +33,8 @@ GivesNone daemon s = IsDown daemon s ⊎ Waits daemon s
 
 -- its machine has heard what was kept for it and gives the act, for which it waits from here on
 abbrev pub MovesOn : {D : Type 0} → Daemon → System D → Act → System D → Type 0
-MovesOn Recall old act new = Moves recall.GoesOn old.recall act (λ (r : Recalling). new ≡ record old { recall = Some r })
-MovesOn Migrate old act new = Moves migrate.GoesOn old.migrate act (λ (m : Migrating). new ≡ record old { migrate = Some m })
+MovesOn Recall old act new = Moves recall.StepsOn old.recall act (λ (r : Recalling). new ≡ record old { recall = Some r })
+MovesOn Migrate old act new = Moves migrate.StepsOn old.migrate act (λ (m : Migrating). new ≡ record old { migrate = Some m })
 
 -- its machine had no memory, and stays as it was. What was kept for it is lost
 pub record LacksMemory {D : Type 0} (daemon : Daemon) (old : System D) (why : Stop) (new : System D) : Type 0 where
@@ -69,7 +69,7 @@ module _ {D : Type 0} (g : disk.Ghosts D) where
   -- it was answered by the store itself
   pub record Serves (sid : Sid) (call : DmCall) (reply : DmReply) (old new : System D) : Type 0 where
     pub made : IsCall sid call reply old new
-    pub served : IsServed reply
+    pub served : StopsNothing reply
     pub added : AddsCall sid call reply old.store new.store
     pub still : new.store.files.failed ≡ false
 

@@ -55,7 +55,7 @@ module _ {D : Type 0} (g : disk.Ghosts D) where
 
   -- The store is the one that was opened, its history has grown, and the disk's count of faults never falls. One that works has worked since, and its disk
   -- has counted no fault. A disk that tells what it holds now told then.
-  pub record GoesOn (old new : Store D) : Type 0 where
+  pub record HasGrown (old new : Store D) : Type 0 where
     pub more : List Entry
     pub history : new.history ≡ old.history ++ more
     pub opened : new.opened ≡ old.opened
@@ -70,7 +70,7 @@ module _ {D : Type 0} (g : disk.Ghosts D) where
 
   -- a store that works goes on working, unless it is stopped
   pub record Runs {T : Type 0} (result : Result T Stop) (old new : Store D) : Type 0 where
-    pub goes_on : GoesOn old new
+    pub goes_on : HasGrown old new
     pub works : old.files.failed ≡ false → MatchResult result (λ done. new.files.failed ≡ false) (IsStoppedFor old new)
 
   -- ---- one event
@@ -87,7 +87,7 @@ module _ {D : Type 0} (g : disk.Ghosts D) where
 
   -- What an event keeps, beside what it does: it is no want of memory where it may be none, a crash behind it finds what one may, and no more of the room that
   -- was reserved is used up than it may.
-  pub record Keeps {T : Type 0} (asked : Event) (result : Result T Stop) (old new : Store D) : Type 0 where
+  pub record IsSafelyDone {T : Type 0} (asked : Event) (result : Result T Stop) (old new : Store D) : Type 0 where
     pub sure : IsSure asked old → old.files.failed ≡ false → IsOk result
     pub safe : IsSafeNow g new
     pub room : old.spare ≤ new.spare + room_of asked old

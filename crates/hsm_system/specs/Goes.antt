@@ -16,7 +16,7 @@ use Rattle.hsm_core.specs.Answers.{entry_of}
 use Rattle.hsm_core.specs.Store.{Store}
 use Rattle.recall_daemon.specs.Machine as recall
 use Rattle.migrate_daemon.specs.Machine as migrate
-use Rattle.deeds.specs.Deeds.{Deed, Enters, Hears, Breaks, Loses, IsServed}
+use Rattle.deeds.specs.Deeds.{Deed, Enters, Hears, Breaks, Loses, StopsNothing}
 use Rattle.deeds.specs.Leads.{Situation, nothing_done, Leads}
 use Rattle.hsm_system.specs.Awaiting.{awaited_by, awaited_of, heard_of}
 use Rattle.hsm_system.specs.Lives.{recalls, migrates, living_of}
@@ -65,7 +65,7 @@ EndsBy stop.Memory told untold old new = Goes untold old new × StillWorks old.s
 
 -- the one entry of such an event, with an answer behind which a run goes on
 abbrev pub IsEntry : Actor → Action → List Deed → Type 0
-IsEntry actor asked deeds = (given : Answer) × IsServed given × (deeds ≡ Enters (entry_of actor asked given) ∷ [])
+IsEntry actor asked deeds = (given : Answer) × StopsNothing given × (deeds ≡ Enters (entry_of actor asked given) ∷ [])
 
 -- the event; where it stops the run the entry of a fault of the disk, or nothing
 pub record EntersBy {D T : Type 0} (actor : Actor) (asked : Action) (result : Result T Stop) (old new : System D) : Type 0 where

@@ -29,5 +29,5 @@ stop_answer stop.Disk action = fault_of action
 stop_answer stop.Memory action = memory_of action
 
 -- the store has answered itself, and not stopped the run
-abbrev pub IsServed : DmReply → Type 0
-IsServed reply = (why : Stop) → reply ≢ reply_of why
+abbrev pub StopsNothing : DmReply → Type 0
+StopsNothing reply = (why : Stop) → reply ≢ reply_of why

@@ -28,7 +28,7 @@ pub(crate) trait Machine: Drop {
 impl Machine for Recaller {
     ghost may_hear = { λ _. Unit {0} };
 
-    ghost goes_on = { recall.GoesOn };
+    ghost goes_on = { recall.StepsOn };
 
     fn go_on(&mut self, told: Heard) -> Result<Act, AllocError> {
         self.next(told)
@@ -38,7 +38,7 @@ impl Machine for Recaller {
 impl Machine for Migrator {
     ghost may_hear = { migrate.IsWithin };
 
-    ghost goes_on = { migrate.GoesOn };
+    ghost goes_on = { migrate.StepsOn };
 
     fn go_on(&mut self, told: Heard) -> Result<Act, AllocError> {
         self.next(told)

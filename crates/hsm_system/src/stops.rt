@@ -1,6 +1,6 @@
 //! Why a run ends before its lines do.
 ghost use Rattle.std.specs.Prelude.{◌≡◌, ◌≢◌, IfOk, IfErr, OnOk};
-ghost use Rattle.hsm_system.specs.Stops.{reply_of, call_reply_of, IsServed};
+ghost use Rattle.hsm_system.specs.Stops.{reply_of, call_reply_of, StopsNothing};
 
 use hsm_types::{CallRefusal, DmRefusal, DmReply, Heard, Reply};
 use std::alloc::AllocError;
@@ -41,7 +41,7 @@ pub(crate) fn answered(reply: Reply) -> Result<(), Stop>
 
 /// Whether it goes on after that answer to a session.
 pub(crate) fn told(reply: DmReply) -> Result<(), Stop>
-    ensures served { OnOk result (IsServed reply) }
+    ensures served { OnOk result (StopsNothing reply) }
     ensures stopped { IfErr result (λ stop. reply ≡ reply_of stop) }
 {
     match reply {
@@ -53,7 +53,7 @@ pub(crate) fn told(reply: DmReply) -> Result<(), Stop>
 
 /// What is heard of a session's call that the store itself answered. A fault of the disk and want of memory are not.
 pub(crate) fn served(reply: DmReply) -> Result<Heard, Stop>
-    ensures served { IfOk result (λ heard. (heard ≡ Heard.Dm reply) × IsServed reply) }
+    ensures served { IfOk result (λ heard. (heard ≡ Heard.Dm reply) × StopsNothing reply) }
     ensures stopped { IfErr result (λ stop. reply ≡ reply_of stop) }
 {
     match reply {

@@ -13,7 +13,7 @@ ghost use Rattle.deeds.specs.Deeds.{NamesNoFault, Gives, Hears, Kills, Loses, Re
 ghost use Rattle.hsm_system.specs.Acts.{Answers, GivesNone, LacksMemory, MovesOn, StopsFor};
 ghost use Rattle.hsm_system.specs.Asking.{MigrateIsRight, RecallIsRight};
 ghost use Rattle.hsm_system.specs.Awaiting.{IsSo, awaited_by, awaited_of, heard_of};
-ghost use Rattle.hsm_system.specs.Events.{IsDone, Keeps, action_of, actor_of};
+ghost use Rattle.hsm_system.specs.Events.{IsDone, IsSafelyDone, action_of, actor_of};
 ghost use Rattle.hsm_system.specs.Goes.{EndsIn, EntersBy, Goes, GoesBy, HearsOf, HearsReply, LosesOf};
 ghost use Rattle.hsm_system.specs.Systems.{Awaits, IsAwaited, Rests, Waits, hearing, killed, refreshed, started};
 
@@ -156,7 +156,7 @@ impl<D: Disk> System<D> {
     pub fn event(&mut self, alloc: Global, event: Event) -> Result<(), Stop>
         requires { NamesNoFault (action_of event) }
         ensures done { IsDone D.Disk (actor_of event) (action_of event) result self.old self.new }
-        ensures keeps { Keeps D.Disk event result self.old.store self.new.store }
+        ensures keeps { IsSafelyDone D.Disk event result self.old.store self.new.store }
         ensures deeds { EntersBy (actor_of event) (action_of event) result self.old self.new }
     {
         self.make(alloc, event)
@@ -164,7 +164,7 @@ impl<D: Disk> System<D> {
 
     fn make(&mut self, alloc: Global, event: Event) -> Result<(), Stop>
         ensures done { IsDone D.Disk (actor_of event) (action_of event) result self.old self.new }
-        ensures keeps { Keeps D.Disk event result self.old.store self.new.store }
+        ensures keeps { IsSafelyDone D.Disk event result self.old.store self.new.store }
     {
         match event {
             Event::Issue(caller, call) => self.issue(alloc, caller, call),
@@ -176,28 +176,28 @@ impl<D: Disk> System<D> {
 
     fn issue(&mut self, alloc: Global, caller: CallerId, call: Call) -> Result<(), Stop>
         ensures done { IsDone D.Disk (Caller caller) (action.Issue call) result self.old self.new }
-        ensures keeps { Keeps D.Disk (Event.Issue caller call) result self.old.store self.new.store }
+        ensures keeps { IsSafelyDone D.Disk (Event.Issue caller call) result self.old.store self.new.store }
     {
         answered(self.hsm.issue(alloc, caller, call))
     }
 
     fn resume(&mut self, alloc: Global, caller: CallerId) -> Result<(), Stop>
         ensures done { IsDone D.Disk (Caller caller) action.Resume result self.old self.new }
-        ensures keeps { Keeps D.Disk (Event.Resume caller) result self.old.store self.new.store }
+        ensures keeps { IsSafelyDone D.Disk (Event.Resume caller) result self.old.store self.new.store }
     {
         answered(self.hsm.resume(alloc, caller))
     }
 
     fn dm(&mut self, alloc: Global, sid: Sid, call: DmCall) -> Result<(), Stop>
         ensures done { IsDone D.Disk (Session sid) (action.Dm call) result self.old self.new }
-        ensures keeps { Keeps D.Disk (Event.Dm sid call) result self.old.store self.new.store }
+        ensures keeps { IsSafelyDone D.Disk (Event.Dm sid call) result self.old.store self.new.store }
     {
         told(self.hsm.dm(alloc, sid, call))
     }
 
     fn commit(&mut self, alloc: Global) -> Result<(), Stop>
         ensures done { IsDone D.Disk TheStore action.Commit result self.old self.new }
-        ensures keeps { Keeps D.Disk Event.Commit result self.old.store self.new.store }
+        ensures keeps { IsSafelyDone D.Disk Event.Commit result self.old.store self.new.store }
     {
         answered(self.hsm.commit(alloc))
     }

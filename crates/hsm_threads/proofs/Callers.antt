@@ -8,7 +8,7 @@ use Rattle.hsm_core.specs.declared.store.Ready.{Ready}
 use Rattle.hsm_core.specs.declared.store.Ready.TheVariants.{Idle, Now, Waits}
 use Rattle.deeds.specs.Deeds.{NamesNoFault}
 use Rattle.call_lists.specs.Lines.{left_of}
-use Rattle.hsm_system.specs.Events.{IsDone, Keeps, action_of, actor_of}
+use Rattle.hsm_system.specs.Events.{IsDone, IsSafelyDone, action_of, actor_of}
 use Rattle.hsm_system.specs.Systems.{System}
 use Rattle.hsm_system.specs.declared.events.Event.{Event}
 use Rattle.hsm_system.specs.declared.events.Event.TheVariants as event
@@ -21,7 +21,7 @@ use Rattle.hsm_threads.proofs.Going.{event_deeds, no_stop}
 
 module _ {D : Type 0} (g : disk.Ghosts D) where
   pub makes : (made : Event) → NamesNoFault (action_of made) → (result : Result (Unit {0}) Stop) (old new : Lot D) → old.system.store.files.failed ≡ false → IsDone g (actor_of made) (action_of made) result old.system new.system
-      → Keeps g made result old.system.store new.system.store → new.stop ≡ stop_of result → Makes g made old new
+      → IsSafelyDone g made result old.system.store new.system.store → new.stop ≡ stop_of result → Makes g made old new
   makes made none result old new works done keeps stop =
       record { result = result; done = done; keeps = keeps; deeds = event_deeds g (actor_of made) (action_of made) none old.system new.system works result done; stop = stop }
 

@@ -40,7 +40,7 @@ use Rattle.hsm_system.specs.declared.daemons.Next.{Next}
 use Rattle.hsm_system.specs.declared.daemons.Running.{Running}
 use Rattle.hsm_system.specs.declared.stops.Stop.{Stop}
 use Rattle.hsm_system.specs.declared.stops.Stop.TheVariants as stop
-use Rattle.hsm_system.proofs.Going.{event_goes}
+use Rattle.hsm_system.proofs.AfterEvents.{event_goes}
 use Rattle.hsm_system.proofs.Leading.{done_enters, goes_itself, goes_then, heard_store}
 use Rattle.hsm_replay.specs.Stopped.{IsOnDrive}
 use Rattle.hsm_threads.specs.Deeds.{entered}

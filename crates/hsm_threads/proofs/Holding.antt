@@ -14,7 +14,7 @@ use Rattle.hsm_core.specs.Answers.{IsAnswer, entry_of}
 use Rattle.hsm_core.specs.Crashes.{IsSafeNow}
 use Rattle.hsm_core.specs.Kept.{IsKept}
 use Rattle.hsm_core.specs.Store.{Store}
-use Rattle.hsm_system.proofs.Going.{event_goes, event_kept_or_not, fault_kept}
+use Rattle.hsm_system.proofs.AfterEvents.{event_goes, event_kept_or_not, fault_kept}
 use Rattle.hsm_threads.specs.Happens.{IsEvent, IsHeld, IsShared}
 
 abbrev IsOwn : Entry → Type 0

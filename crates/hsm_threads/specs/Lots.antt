@@ -15,7 +15,7 @@ use Rattle.call_lists.specs.Lines.{left_of}
 use Rattle.call_lists.specs.Made.{AreMade}
 use Rattle.call_lists.specs.declared.lists.CallList.{CallList}
 use Rattle.hsm_system.specs.Awaiting.{awaited_by, awaited_of, heard_of}
-use Rattle.hsm_system.specs.Events.{IsDone, Keeps, action_of, actor_of}
+use Rattle.hsm_system.specs.Events.{IsDone, IsSafelyDone, action_of, actor_of}
 use Rattle.hsm_system.specs.Goes.{Goes, GoesBy, Holds}
 use Rattle.hsm_system.specs.Systems.{System, hearing}
 use Rattle.hsm_system.specs.declared.awaited.Outcome.{Outcome}
@@ -59,7 +59,7 @@ module _ {D : Type 0} (g : disk.Ghosts D) where
   pub record Makes (made : Event) (old new : Lot D) : Type 0 where
     pub result : Result (Unit {0}) Stop
     pub done : IsDone g (actor_of made) (action_of made) result old.system new.system
-    pub keeps : Keeps g made result old.system.store new.system.store
+    pub keeps : IsSafelyDone g made result old.system.store new.system.store
     pub deeds : Goes (entered (stop_of result) (entry_of (actor_of made) (action_of made) done.given)) old.system new.system
     pub stop : new.stop ≡ stop_of result
 

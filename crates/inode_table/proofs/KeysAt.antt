@@ -8,7 +8,7 @@ use Rattle.hsm_types.specs.Listing.{Listed}
 use Rattle.inode_table.specs.declared.entries.FileEntry.{FileEntry}
 use Rattle.inode_table.specs.Listing.{listing, key_at, Ascend}
 use Rattle.inode_table.specs.Places.{Cuts, StandsAt}
-use Rattle.inode_table.proofs.Standing.{other_inode}
+use Rattle.inode_table.proofs.PlacesOfFiles.{other_inode}
 
 -- ---- from the place of an inode
 

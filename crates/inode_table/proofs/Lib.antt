@@ -2,7 +2,7 @@ pub mod Choices
 pub mod Orders
 pub mod Names
 pub mod Listings
-pub mod Standing
+pub mod PlacesOfFiles
 pub mod KeysAt
 pub mod Indexing
 pub mod Keeping

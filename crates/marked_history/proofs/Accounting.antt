@@ -26,7 +26,7 @@ use Rattle.event_msgs.proofs.ToldMessages.{packed_told}
 use Rattle.daemon_session.specs.declared.events.Kept.{Kept}
 use Rattle.daemon_session.specs.Seats.{Seat, IsSeated, has_kept_token, forgot, found_one}
 use Rattle.daemon_session.specs.Tellings.{event_on, own_event, events_in}
-use Rattle.marked_history.specs.Tokens.{Keeps}
+use Rattle.marked_history.specs.Tokens.{KeepsEvent}
 use Rattle.marked_history.proofs.Lists.{none_in, first_in, later_in}
 use Rattle.marked_history.proofs.Outstanding.{zip_each}
 
@@ -49,16 +49,16 @@ module _ {X : Type 0} (p : X → Bool) where
 
 -- ---- events that are kept
 
-keeps_first : (kept more : List Kept) (t : Token) → Keeps kept t → Keeps (kept ++ more) t
+keeps_first : (kept more : List Kept) (t : Token) → KeepsEvent kept t → KeepsEvent (kept ++ more) t
 keeps_first kept more t is = (is.0, Contains-append_left kept more is.0 is.1, is.2)
 
-pub keeps_last : (kept more : List Kept) (t : Token) → Keeps more t → Keeps (kept ++ more) t
+pub keeps_last : (kept more : List Kept) (t : Token) → KeepsEvent more t → KeepsEvent (kept ++ more) t
 keeps_last kept more t is = (is.0, Contains-append_right kept more is.0 is.1, is.2)
 
-keeps_changed : (f : Kept → Kept) → ((k : Kept) → (f k).event ≡ k.event) → (kept : List Kept) (t : Token) → Keeps kept t → Keeps (map f kept) t
+keeps_changed : (f : Kept → Kept) → ((k : Kept) → (f k).event ≡ k.event) → (kept : List Kept) (t : Token) → KeepsEvent kept t → KeepsEvent (map f kept) t
 keeps_changed f same kept t is = (f is.0, All-contains (λ k. Contains (map f kept) (f k)) kept is.0 (mapped_in f kept) is.1, ap (λ e. e.token) (same is.0) ∙ is.2)
 
-keeps_others : (u : Token) (kept : List Kept) (t : Token) → (t.0 ≡ u.0 → ⊥) → Keeps kept t → Keeps (forgot u kept) t
+keeps_others : (u : Token) (kept : List Kept) (t : Token) → (t.0 ≡ u.0 → ⊥) → KeepsEvent kept t → KeepsEvent (forgot u kept) t
 keeps_others u kept t apart is =
     let other : has_kept_token u is.0 ≡ false = ne_eqb is.0.event.token.0 u.0 (λ same. apart (ap (λ (x : Token). x.0) (sym is.2) ∙ same)) in
     let stays : not (has_kept_token u is.0) ≡ true = ap not other in
@@ -83,26 +83,26 @@ tells_one d m is own =
     let h = has_handle d m.kind m is.message own in
     (record { event = event_on m h.0; marked = false }, event_with d m h.0 h.1 own, refl)
 
-kept_later : (o : Option Kept) (l : List Kept) (t : Token) → Keeps l t → Keeps (cons_option o l) t
+kept_later : (o : Option Kept) (l : List Kept) (t : Token) → KeepsEvent l t → KeepsEvent (cons_option o l) t
 kept_later None l t is = is
 kept_later (Some k) l t is = (is.0, later_in k l is.0 is.1, is.2)
 
-kept_now : (o : Option Kept) (l : List Kept) (t : Token) (k : Kept) → o ≡ Some k → k.event.token ≡ t → Keeps (cons_option o l) t
-kept_now o l t k is same = subst (λ (x : Option Kept). Keeps (cons_option x l) t) (sym is) (k, first_in k l, same)
+kept_now : (o : Option Kept) (l : List Kept) (t : Token) (k : Kept) → o ≡ Some k → k.event.token ≡ t → KeepsEvent (cons_option o l) t
+kept_now o l t k is same = subst (λ (x : Option Kept). KeepsEvent (cons_option x l) t) (sym is) (k, first_in k l, same)
 
 -- the event of each is among them
-tell_all : (d : Daemon) (messages : List Message) → All IsInGrammar messages → All (λ m. takes (kinds_of d) m.kind ≡ true → Keeps (filter_map (own_event d) messages) m.token) messages
-tell_all d [] each = All-nil (λ m. takes (kinds_of d) m.kind ≡ true → Keeps (filter_map (own_event d) []) m.token)
+tell_all : (d : Daemon) (messages : List Message) → All IsInGrammar messages → All (λ m. takes (kinds_of d) m.kind ≡ true → KeepsEvent (filter_map (own_event d) messages) m.token) messages
+tell_all d [] each = All-nil (λ m. takes (kinds_of d) m.kind ≡ true → KeepsEvent (filter_map (own_event d) []) m.token)
 tell_all d (m ∷ more) each =
-    All-cons (λ x. takes (kinds_of d) x.kind ≡ true → Keeps (filter_map (own_event d) (m ∷ more)) x.token) m more
+    All-cons (λ x. takes (kinds_of d) x.kind ≡ true → KeepsEvent (filter_map (own_event d) (m ∷ more)) x.token) m more
     (λ own. let one = tells_one d m (All-head IsInGrammar m more each) own in kept_now (own_event d m) (filter_map (own_event d) more) m.token one.0 one.1 one.2)
-    (All-weaker (λ x. takes (kinds_of d) x.kind ≡ true → Keeps (filter_map (own_event d) more) x.token) (λ x. takes (kinds_of d) x.kind ≡ true → Keeps (filter_map (own_event d) (m ∷ more)) x.token)
+    (All-weaker (λ x. takes (kinds_of d) x.kind ≡ true → KeepsEvent (filter_map (own_event d) more) x.token) (λ x. takes (kinds_of d) x.kind ≡ true → KeepsEvent (filter_map (own_event d) (m ∷ more)) x.token)
     (λ x later own. kept_later (own_event d m) (filter_map (own_event d) more) x.token (later own)) more (tell_all d more (All-tail IsInGrammar m more each)))
 
 -- a buffer of messages tells the events of all of them
-pub packed_tell : (d : Daemon) (bytes : List ℕ) (messages : List Message) → IsPacked bytes messages → All (λ m. takes (kinds_of d) m.kind ≡ true → Keeps (events_in d bytes) m.token) messages
+pub packed_tell : (d : Daemon) (bytes : List ℕ) (messages : List Message) → IsPacked bytes messages → All (λ m. takes (kinds_of d) m.kind ≡ true → KeepsEvent (events_in d bytes) m.token) messages
 packed_tell d bytes messages packed =
-    subst (λ (l : List Message). All (λ m. takes (kinds_of d) m.kind ≡ true → Keeps (filter_map (own_event d) l) m.token) messages) (packed_told bytes messages packed) (tell_all d messages packed.each)
+    subst (λ (l : List Message). All (λ m. takes (kinds_of d) m.kind ≡ true → KeepsEvent (filter_map (own_event d) l) m.token) messages) (packed_told bytes messages packed) (tell_all d messages packed.each)
 
 -- ---- accounts
 
@@ -113,7 +113,7 @@ Finds c a u = ⊥
 
 -- The token's event is kept, or its message is still to be found; or it was taken, in a sense that is left open here.
 abbrev pub IsAccounted : (Token → Type 0) → List Kept → List Token → Token → Type 0
-IsAccounted Taken kept unfound t = Keeps kept t ⊎ (Contains unfound t ⊎ Taken t)
+IsAccounted Taken kept unfound t = KeepsEvent kept t ⊎ (Contains unfound t ⊎ Taken t)
 
 abbrev pub Accounted : Daemon → (Token → Type 0) → List Kept → List Token → Message → Type 0
 Accounted d Taken kept unfound m = takes (kinds_of d) m.kind ≡ true → IsAccounted Taken kept unfound m.token
@@ -141,14 +141,14 @@ module _ (d : Daemon) (t : SessionTable) where
       All-weaker (Accounted d Taken seat.kept unfound) (Accounted d Later seat.kept unfound) (λ x has takes. later_accounted Taken Later seat.kept unfound x.token (later x.token) (has takes)) (outstanding_of sid t) (is sid unfound own left)
 
   module _ (Taken : Token → Type 0) (seat : Seat) (is : AllAccounted d Taken t seat) where
-    kept_else : (kept : List Kept) (unfound : List Token) (u : Token) → (Keeps seat.kept u → Keeps kept u) → IsAccounted Taken seat.kept unfound u → IsAccounted Taken kept unfound u
+    kept_else : (kept : List Kept) (unfound : List Token) (u : Token) → (KeepsEvent seat.kept u → KeepsEvent kept u) → IsAccounted Taken seat.kept unfound u → IsAccounted Taken kept unfound u
     kept_else kept unfound u keeps (inl has) = inl (keeps has)
     kept_else kept unfound u keeps (inr other) = inr other
 
     -- it keeps other events
-    kept_on : (kept : List Kept) → ((sid : Sid) → seat.sid ≡ Some sid → All (λ m. takes (kinds_of d) m.kind ≡ true → Keeps seat.kept m.token → Keeps kept m.token) (outstanding_of sid t)) → AllAccounted d Taken t (record seat { kept = kept })
+    kept_on : (kept : List Kept) → ((sid : Sid) → seat.sid ≡ Some sid → All (λ m. takes (kinds_of d) m.kind ≡ true → KeepsEvent seat.kept m.token → KeepsEvent kept m.token) (outstanding_of sid t)) → AllAccounted d Taken t (record seat { kept = kept })
     kept_on kept keeps sid unfound own left =
-        zip_each (Accounted d Taken seat.kept unfound) (λ m. takes (kinds_of d) m.kind ≡ true → Keeps seat.kept m.token → Keeps kept m.token) (Accounted d Taken kept unfound)
+        zip_each (Accounted d Taken seat.kept unfound) (λ m. takes (kinds_of d) m.kind ≡ true → KeepsEvent seat.kept m.token → KeepsEvent kept m.token) (Accounted d Taken kept unfound)
         (λ m has keep taken. kept_else kept unfound m.token (keep taken) (has taken)) (outstanding_of sid t) (is sid unfound own left) (keeps sid own)
 
     pub grown_on : (more : List Kept) → AllAccounted d Taken t (record seat { kept = seat.kept ++ more })
@@ -162,7 +162,7 @@ module _ (d : Daemon) (t : SessionTable) where
     forgot_on x u at apart = kept_on (forgot u seat.kept) (λ sid own.
         let one : x ≡ sid = cc in
         let there : All (IsApart d u) (outstanding_of sid t) = subst (λ (y : Sid). All (IsApart d u) (outstanding_of y t)) one apart in
-        All-weaker (IsApart d u) (λ m. takes (kinds_of d) m.kind ≡ true → Keeps seat.kept m.token → Keeps (forgot u seat.kept) m.token) (λ m other taken has. keeps_others u seat.kept m.token (other taken) has) (outstanding_of sid t) there)
+        All-weaker (IsApart d u) (λ m. takes (kinds_of d) m.kind ≡ true → KeepsEvent seat.kept m.token → KeepsEvent (forgot u seat.kept) m.token) (λ m other taken has. keeps_others u seat.kept m.token (other taken) has) (outstanding_of sid t) there)
 
     passed : (u : Token) (rest : List Token) (v : Token) → (v.0 ≡ u.0 → ⊥) → IsAccounted Taken seat.kept (u ∷ rest) v → IsAccounted Taken seat.kept rest v
     passed u rest v apart (inl has) = inl has
@@ -179,7 +179,7 @@ module _ (d : Daemon) (t : SessionTable) where
         (zip_each (Accounted d Taken seat.kept (u ∷ rest)) (IsApart d u) (Accounted d Taken seat.kept rest) (λ m has other taken. passed u rest m.token (other taken) (has taken)) (outstanding_of sid t)
         (is sid (u ∷ rest) own left) (subst (λ (y : Sid). All (IsApart d u) (outstanding_of y t)) one apart))
 
-    found_or : (Later : Token → Type 0) (u : Token) (rest : List Token) (more : List Kept) (v : Token) → ((w : Token) → (w.0 ≡ u.0 → ⊥) → Taken w → Later w) → (v.0 ≡ u.0 → Keeps more v) → IsAccounted Taken seat.kept (u ∷ rest) v → IsAccounted Later (seat.kept ++ more) rest v
+    found_or : (Later : Token → Type 0) (u : Token) (rest : List Token) (more : List Kept) (v : Token) → ((w : Token) → (w.0 ≡ u.0 → ⊥) → Taken w → Later w) → (v.0 ≡ u.0 → KeepsEvent more v) → IsAccounted Taken seat.kept (u ∷ rest) v → IsAccounted Later (seat.kept ++ more) rest v
     found_or Later u rest more v later told has = by (v.0 == u.0) refl
       where
         after : (v.0 ≡ u.0 → ⊥) → IsAccounted Taken seat.kept rest v → IsAccounted Later (seat.kept ++ more) rest v
@@ -193,23 +193,23 @@ module _ (d : Daemon) (t : SessionTable) where
 
     -- the message of the first of them was found again
     pub found_on : (Later : Token → Type 0) (x : Sid) (u : Token) (rest : List Token) (more : List Kept) → seat.sid ≡ Some x → seat.unfound ≡ Some (u ∷ rest) → ((w : Token) → (w.0 ≡ u.0 → ⊥) → Taken w → Later w)
-        → All (λ y. takes (kinds_of d) y.kind ≡ true → y.token.0 ≡ u.0 → Keeps more y.token) (outstanding_of x t) → AllAccounted d Later t (record (found_one seat) { kept = seat.kept ++ more })
+        → All (λ y. takes (kinds_of d) y.kind ≡ true → y.token.0 ≡ u.0 → KeepsEvent more y.token) (outstanding_of x t) → AllAccounted d Later t (record (found_one seat) { kept = seat.kept ++ more })
     found_on Later x u rest more at left later told sid unfound own remains =
         let one : x ≡ sid = cc in
         let fewer : Some rest ≡ Some unfound = ap (λ (o : Option (List Token)). option_map (λ (l : List Token). drop 1 l) o) (sym left) ∙ remains in
         let same : rest ≡ unfound = cc in
         subst (λ (l : List Token). All (Accounted d Later (seat.kept ++ more) l) (outstanding_of sid t)) same
-        (zip_each (Accounted d Taken seat.kept (u ∷ rest)) (λ y. takes (kinds_of d) y.kind ≡ true → y.token.0 ≡ u.0 → Keeps more y.token) (Accounted d Later (seat.kept ++ more) rest)
+        (zip_each (Accounted d Taken seat.kept (u ∷ rest)) (λ y. takes (kinds_of d) y.kind ≡ true → y.token.0 ≡ u.0 → KeepsEvent more y.token) (Accounted d Later (seat.kept ++ more) rest)
         (λ y has tells taken. found_or Later u rest more y.token later (tells taken) (has taken)) (outstanding_of sid t)
-        (is sid (u ∷ rest) own left) (subst (λ (z : Sid). All (λ y. takes (kinds_of d) y.kind ≡ true → y.token.0 ≡ u.0 → Keeps more y.token) (outstanding_of z t)) one told))
+        (is sid (u ∷ rest) own left) (subst (λ (z : Sid). All (λ y. takes (kinds_of d) y.kind ≡ true → y.token.0 ≡ u.0 → KeepsEvent more y.token) (outstanding_of z t)) one told))
 
     -- where it has all its messages each is kept or was taken
-    kept_or_taken : (u : Token) → IsAccounted Taken seat.kept [] u → Keeps seat.kept u ⊎ Taken u
+    kept_or_taken : (u : Token) → IsAccounted Taken seat.kept [] u → KeepsEvent seat.kept u ⊎ Taken u
     kept_or_taken u (inl has) = inl has
     kept_or_taken u (inr (inl there)) = absurd (none_in u there)
     kept_or_taken u (inr (inr taken)) = inr taken
 
-    pub seated_keeps : (sid : Sid) (m : Message) → IsSeated seat sid → Contains (outstanding_of sid t) m → takes (kinds_of d) m.kind ≡ true → Keeps seat.kept m.token ⊎ Taken m.token
+    pub seated_keeps : (sid : Sid) (m : Message) → IsSeated seat sid → Contains (outstanding_of sid t) m → takes (kinds_of d) m.kind ≡ true → KeepsEvent seat.kept m.token ⊎ Taken m.token
     seated_keeps sid m seated there taken = kept_or_taken m.token (All-contains (Accounted d Taken seat.kept []) (outstanding_of sid t) m (is sid [] seated.session seated.found) there taken)
 
   -- it was told which messages it has to find

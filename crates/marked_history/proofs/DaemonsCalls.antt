@@ -40,12 +40,12 @@ use Rattle.recall_daemon.specs.Known as recall
 use Rattle.recall_daemon.proofs.Outcomes.{but_kept}
 use Rattle.migrate_daemon.specs.Known as migrate
 use Rattle.hsm_core.specs.Answers.{entry_of}
-use Rattle.marked_history.specs.Marks.{Mark, Exchange, exchange_by}
+use Rattle.marked_history.specs.Marks.{Mark, AnsweredCall, answered_call_by}
 use Rattle.marked_history.specs.Served.{Shown, nothing_shown, with_exchange, with_entry, learned, RecallMay, MigrateMay, MayCall, IsServedBy}
 use Rattle.marked_history.specs.Settling.{IsCalledByDaemon}
 use Rattle.marked_history.specs.Tokens.{seat_of}
 use Rattle.marked_history.proofs.AnyAnswer.{call_so, others_so}
-use Rattle.marked_history.proofs.DaemonsTables.{IsServed, Has, Tables, Leaves, leaves_all, posted_tables, posted_leaves, delivered_tables, delivered_leaves}
+use Rattle.marked_history.proofs.DaemonsTables.{GetsItsKinds, Has, Tables, Leaves, leaves_all, posted_tables, posted_leaves, delivered_tables, delivered_leaves}
 use Rattle.marked_history.proofs.DaemonsTables.{answered_tables, answered_leaves, set_served, set_leaves, set_tables, new_has, made_leaves, made_tables}
 use Rattle.marked_history.proofs.Handing.{PostsParked}
 use Rattle.marked_history.proofs.Informing.{informed_lives, listed}
@@ -64,7 +64,7 @@ pub record Sits (d : Daemon) (t : SessionTable) (sid found : Option Sid) (others
   pub here : (x : Sid) → sid ≡ Some x → Has d x t
   pub known : (x : Sid) → found ≡ Some x → Has d x t
   pub told : (rest : List Sid) → others ≡ Some rest → found ≡ None → (x : Sid) → Has d x t → Contains rest x
-  pub ready : (x : Sid) → sid ≡ Some x → set ≡ true → IsServed d x t
+  pub ready : (x : Sid) → sid ≡ Some x → set ≡ true → GetsItsKinds d x t
 
 abbrev pub SitsAt : Daemon → SessionTable → Seat → Type 0
 SitsAt d t seat = Sits d t seat.sid seat.found seat.others seat.set
@@ -280,12 +280,12 @@ module _ (s : Superblock) (st : State) (ordered : InOrder st) (tables : Tables s
     disposes : (kinds : Kinds) (a : DmReply) → MayChange d seat x (call.SetDisp kinds) → SitsAt d (after (call.SetDisp kinds) a) (seat_hears d seat (call.SetDisp kinds) a)
     disposes kinds reply.Done may =
         let was = still (call.SetDisp kinds) reply.Done may (λ old info same. cc) in
-        record { here = was.here; known = was.known; told = was.told; ready = λ y own set. subst (λ (z : Sid). IsServed d z (after (call.SetDisp kinds) reply.Done)) (same_Some x y (sym may.0 ∙ own)) served }
+        record { here = was.here; known = was.known; told = was.told; ready = λ y own set. subst (λ (z : Sid). GetsItsKinds d z (after (call.SetDisp kinds) reply.Done)) (same_Some x y (sym may.0 ∙ own)) served }
       where
-        served : IsServed d x (after (call.SetDisp kinds) reply.Done)
+        served : GetsItsKinds d x (after (call.SetDisp kinds) reply.Done)
         served =
-            subst (λ (t : SessionTable). IsServed d x t) (sym (done_left s st x (call.SetDisp kinds) reply.Done refl))
-            (subst (λ (z : Kinds). IsServed d x (with_kinds x z now)) (sym may.1) (set_served d x now (sits.here x may.0)))
+            subst (λ (t : SessionTable). GetsItsKinds d x t) (sym (done_left s st x (call.SetDisp kinds) reply.Done refl))
+            (subst (λ (z : Kinds). GetsItsKinds d x (with_kinds x z now)) (sym may.1) (set_served d x now (sits.here x may.0)))
     disposes kinds a may = still (call.SetDisp kinds) a may (λ old info same. cc)
 
     own_sits : (c : DmCall) (a : DmReply) → MayChange d seat x c → IsAnswer s st (Session x) (Dm c) (Told a) → SitsAt d (after c a) (seat_hears d (seat_asks seat c) c a)
@@ -328,7 +328,7 @@ module _ (s : Superblock) (st : State) (ordered : InOrder st) (k : Shown) (is : 
   no_call who what answer none = others_so s st (λ t. AllSit t k) is parked_on who what answer none
 
   module _ (limits : Numbers) (x : Sid) (c : DmCall) (a : DmReply) (answer : IsAnswer s st (Session x) (Dm c) (Told a)) where
-    abbrev exchange : Exchange
+    abbrev exchange : AnsweredCall
     exchange = record { sid = x; call = c; reply = a }
 
     abbrev table_then : SessionTable
@@ -355,7 +355,7 @@ module _ (s : Superblock) (st : State) (ordered : InOrder st) (k : Shown) (is : 
     }
 
   step : (limits : Numbers) (by : Option Daemon) (who : Actor) (what : Action) (answer : Answer) → IsAnswer s st who what answer → ((sid : Sid) → who ≡ Session sid → (d : Daemon) × (by ≡ Some d)) → IsServedBy by k (record { entry = entry_of who what answer; by = by })
-      → AllSit (left_by s st who what answer).sessions (with_entry limits by (exchange_by who what answer) k)
+      → AllSit (left_by s st who what answer).sessions (with_entry limits by (answered_call_by who what answer) k)
   step limits None who what answer exact called served = no_call who what answer (λ sid same. none-some _ (called sid same).1)
   step limits (Some d) (Session x) (Dm c) (Told a) exact called served = call_on limits x c a exact d served
   step limits (Some d) who what answer exact called served = absurd served

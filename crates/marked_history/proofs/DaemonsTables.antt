@@ -226,7 +226,7 @@ abbrev kinds_in : Sid → SessionTable → Option Kinds
 kinds_in x t = option_map (λ (s : LiveSession). s.kinds) (session_of x t)
 
 -- it takes all of the daemon's kinds, and no message of these is left unrouted
-pub record IsServed (d : Daemon) (x : Sid) (t : SessionTable) : Type 0 where
+pub record GetsItsKinds (d : Daemon) (x : Sid) (t : SessionTable) : Type 0 where
   pub kinds : Kinds
   pub own : kinds_in x t ≡ Some kinds
   pub all : (k : Kind) → takes (kinds_of d) k ≡ true → takes kinds k ≡ true
@@ -242,7 +242,7 @@ pub record Tables (t : SessionTable) : Type 0 where
 pub record Leaves (d : Daemon) (t u : SessionTable) : Type 0 where
   pub fewer : (x : Sid) → Has d x u → Has d x t
   pub more : (x : Sid) → Has d x t → Has d x u
-  pub served : (x : Sid) → Has d x t → IsServed d x t → IsServed d x u
+  pub served : (x : Sid) → Has d x t → GetsItsKinds d x t → GetsItsKinds d x u
 
 pub leaves_all : (d : Daemon) (t : SessionTable) → Leaves d t t
 leaves_all d t = record { fewer = λ x has. has; more = λ x has. has; served = λ x has is. is }
@@ -277,7 +277,7 @@ module _ (change : LiveSession → LiveSession) (same_info : (s : LiveSession) �
 -- ---- a message is posted
 
 module _ (m : Message) (wanted : IsDaemonsKind m.kind) (t : SessionTable) (ascend : Ascend 0 t.given t.live) where
-  not_taken : (d : Daemon) (x : Sid) → IsServed d x t → taker m.kind t ≡ None → takes (kinds_of d) m.kind ≡ false
+  not_taken : (d : Daemon) (x : Sid) → GetsItsKinds d x t → taker m.kind t ≡ None → takes (kinds_of d) m.kind ≡ false
   not_taken d x is none = is_false (takes (kinds_of d) m.kind) (λ own. takes_found m.kind x is.kinds t.live is.own (is.all m.kind own) none)
 
   abbrev Posts : Option Sid → Type 0
@@ -366,7 +366,7 @@ module _ (d : Daemon) (x : Sid) (t : SessionTable) (has : Has d x t) where
   set_kinds None none = absurd (none-some _ none)
   set_kinds (Some s) is = refl
 
-  pub set_served : IsServed d x after
+  pub set_served : GetsItsKinds d x after
   set_served = record {
     kinds = own_kinds;
     own = ap (λ (o : Option LiveSession). option_map (λ (s : LiveSession). s.kinds) o) looked ∙ set_kinds (session_of x t) has;
@@ -386,7 +386,7 @@ module _ (d : Daemon) (x : Sid) (t : SessionTable) (has : Has d x t) where
     lost_kinds None kinds none = absurd (none-some _ none)
     lost_kinds (Some s) kinds is = ap (λ (z : Kinds). Some (without_kinds own_kinds z)) (same_Some s.kinds kinds is)
 
-    stays_served : IsServed e y t → IsServed e y after
+    stays_served : GetsItsKinds e y t → GetsItsKinds e y after
     stays_served is = record {
       kinds = without_kinds own_kinds is.kinds;
       own = ap (λ (o : Option LiveSession). option_map (λ (s : LiveSession). s.kinds) o) (changed_other sets y x elsewhere others ∙ lookup-mapped y (loses own_kinds) t.live) ∙ lost_kinds (session_of y t) is.kinds is.own;
@@ -395,9 +395,9 @@ module _ (d : Daemon) (x : Sid) (t : SessionTable) (has : Has d x t) where
     }
 
   module _ (tables : Tables t) where
-    served_on : (e : Daemon) (y : Sid) → Has e y t → IsServed e y t → IsServed e y after
+    served_on : (e : Daemon) (y : Sid) → Has e y t → GetsItsKinds e y t → GetsItsKinds e y after
     served_on e y theirs is = elim (differ d e) [
-      | inl same ↦ subst (λ (z : Daemon). IsServed z y after) same (subst (λ (z : Sid). IsServed d z after) (own_one same) set_served)
+      | inl same ↦ subst (λ (z : Daemon). GetsItsKinds z y after) same (subst (λ (z : Sid). GetsItsKinds d z after) (own_one same) set_served)
       | inr apart ↦ stays_served e apart y theirs is
     ]
       where

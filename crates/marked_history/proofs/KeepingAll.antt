@@ -29,7 +29,7 @@ use Rattle.recall_daemon.proofs.Outcomes.{AsksOn, seat_so}
 use Rattle.migrate_daemon.specs.Known as migrate
 use Rattle.hsm_core.specs.Answers.{entry_of}
 use Rattle.hsm_core.specs.Packed.{HandsBy}
-use Rattle.marked_history.specs.Marks.{Mark, entries_of, exchange_by, no_daemons, made}
+use Rattle.marked_history.specs.Marks.{Mark, entries_of, answered_call_by, no_daemons, made}
 use Rattle.marked_history.specs.Served.{Shown, nothing_shown, with_entry, learned, shown, RecallMay, MigrateMay, IsServedBy}
 use Rattle.marked_history.specs.Tokens.{line_told, FindsAgain, IsTaken, KeepsAll, ServedKeepsAll}
 use Rattle.marked_history.proofs.Carrying.{Each, none_each}
@@ -160,7 +160,7 @@ module _ (s : Superblock) (st : State) (ordered : InOrder st) (done : List Mark)
 
   module _ (tokened : Each HasToken st.sessions) (limits : Numbers) (k : Shown) (f : Follows done st.sessions k) where
     step : (by : Option Daemon) (who : Actor) (what : Action) (answer : Answer) → IsAnswer s st who what answer → HandsBy st who what answer → IsServedBy by k (record { entry = entry_of who what answer; by = by })
-        → Follows (done ++ (record { entry = entry_of who what answer; by = by }) ∷ []) (left_by s st who what answer).sessions (with_entry limits by (exchange_by who what answer) k)
+        → Follows (done ++ (record { entry = entry_of who what answer; by = by }) ∷ []) (left_by s st who what answer).sessions (with_entry limits by (answered_call_by who what answer) k)
     step None who what answer is hands served = record {
       recall = line_more Recall k.recall.seat who what answer is f.recall_given f.recall;
       migrate = line_more Migrate k.migrate.seat who what answer is f.migrate_given f.migrate;

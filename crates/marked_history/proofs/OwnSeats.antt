@@ -41,7 +41,7 @@ use Rattle.dm_service.specs.Handing.{HandsOut}
 use Rattle.daemon_session.specs.declared.events.Kept.{Kept}
 use Rattle.daemon_session.specs.Seats.{Seat, no_seat, new_seat, told_info, found_one, forgot, seat_asks, seat_hears}
 use Rattle.daemon_session.specs.Tellings.{events_in}
-use Rattle.marked_history.specs.Tokens.{Keeps}
+use Rattle.marked_history.specs.Tokens.{KeepsEvent}
 use Rattle.marked_history.proofs.Carrying.{Each, outstanding_of_each}
 use Rattle.marked_history.proofs.Outstanding.{zip_each, created_empty, responded_gone, once_out, owned_message, found_one as one_found}
 use Rattle.marked_history.proofs.Leaving.{Hands, left_out, told_gone, IsOn, own_reply, done_left, same_left, once, told_apart}
@@ -170,20 +170,20 @@ module _ (s : Superblock) (st : State) (ordered : InOrder st) (d : Daemon) where
 
         -- each message with the token is the one that is told
         tells : (bytes : List ℕ) (tokens : List Token) → IsAnswer s st (Session x) (Dm find) (Told (reply.Packed bytes tokens)) → IsPacked bytes (message_or_none (outstanding_message u st.sessions))
-            → All (λ y. takes (kinds_of d) y.kind ≡ true → y.token.0 ≡ u.0 → Keeps (events_in d bytes) y.token) (outstanding_of x st.sessions)
+            → All (λ y. takes (kinds_of d) y.kind ≡ true → y.token.0 ≡ u.0 → KeepsEvent (events_in d bytes) y.token) (outstanding_of x st.sessions)
         tells bytes tokens is packed =
             let judged = (own_reply s st x find (reply.Packed bytes tokens) is refl).0 in
             let fits : List (Option DmRefusal) = none_fits room (message_or_none (outstanding_message u st.sessions)) ∷ [] in
             let past = none_first (dead_session x st.sessions) (bad_own_token x u st.sessions ∷ fits) judged in
             let mine = owned_open st x u ordered (none_first (bad_own_token x u st.sessions) fits past.1).0 in
             let found = one_found (has_token u) (outstanding_of x st.sessions) (once_out st.sessions (once s st x ordered) x u mine.1) in
-            All-weaker (λ y. has_token u y ≡ true → message_in u (outstanding_of x st.sessions) ≡ Some y) (λ y. takes (kinds_of d) y.kind ≡ true → y.token.0 ≡ u.0 → Keeps (events_in d bytes) y.token)
+            All-weaker (λ y. has_token u y ≡ true → message_in u (outstanding_of x st.sessions) ≡ Some y) (λ y. takes (kinds_of d) y.kind ≡ true → y.token.0 ≡ u.0 → KeepsEvent (events_in d bytes) y.token)
             (λ y one own same. told_one bytes y packed (owned_message u x st.sessions ordered.ascend mine.2 ∙ one (eq-eqb y.token.0 u.0 same)) own) (outstanding_of x st.sessions) found
           where
-            told_one : (bytes : List ℕ) (y : Message) → IsPacked bytes (message_or_none (outstanding_message u st.sessions)) → outstanding_message u st.sessions ≡ Some y → takes (kinds_of d) y.kind ≡ true → Keeps (events_in d bytes) y.token
+            told_one : (bytes : List ℕ) (y : Message) → IsPacked bytes (message_or_none (outstanding_message u st.sessions)) → outstanding_message u st.sessions ≡ Some y → takes (kinds_of d) y.kind ≡ true → KeepsEvent (events_in d bytes) y.token
             told_one bytes y packed is own =
                 let alone : IsPacked bytes (y ∷ []) = subst (λ (o : Option Message). IsPacked bytes (message_or_none o)) is packed in
-                All-head (λ m. takes (kinds_of d) m.kind ≡ true → Keeps (events_in d bytes) m.token) y [] (packed_tell d bytes (y ∷ []) alone) own
+                All-head (λ m. takes (kinds_of d) m.kind ≡ true → KeepsEvent (events_in d bytes) m.token) y [] (packed_tell d bytes (y ∷ []) alone) own
 
         found_again : (bytes : List ℕ) (tokens : List Token) → Stays find (reply.Packed bytes tokens) → IsAnswer s st (Session x) (Dm find) (Told (reply.Packed bytes tokens)) → IsPacked bytes (message_or_none (outstanding_message u st.sessions))
             → AllAccounted d Later (after find (reply.Packed bytes tokens)) (record (found_one seat) { kept = seat.kept ++ events_in d bytes })
@@ -217,7 +217,7 @@ module _ (s : Superblock) (st : State) (ordered : InOrder st) (d : Daemon) where
             subst (λ (y : Sid). All (Accounted d Later (seat.kept ++ events_in d bytes) unfound) (handed_out most2 room2 (queue_of y st.sessions))) same_sid
             (subst (λ (n : ℕ). All (Accounted d Later (seat.kept ++ events_in d bytes) unfound) (handed_out n room2 (queue_of x st.sessions))) same_most
             (subst (λ (n : ℕ). All (Accounted d Later (seat.kept ++ events_in d bytes) unfound) (handed_out most n (queue_of x st.sessions))) same_room
-            (All-weaker (λ m. takes (kinds_of d) m.kind ≡ true → Keeps (events_in d bytes) m.token) (Accounted d Later (seat.kept ++ events_in d bytes) unfound) (λ m has own. inl (keeps_last seat.kept (events_in d bytes) m.token (has own)))
+            (All-weaker (λ m. takes (kinds_of d) m.kind ≡ true → KeepsEvent (events_in d bytes) m.token) (Accounted d Later (seat.kept ++ events_in d bytes) unfound) (λ m has own. inl (keeps_last seat.kept (events_in d bytes) m.token (has own)))
             (handed_out most room (queue_of x st.sessions)) (packed_tell d bytes (handed_out most room (queue_of x st.sessions)) packed))))
 
         gets : (a : DmReply) → Stays get a → HandsOut st.sessions x get a → IsAnswer s st (Session x) (Dm get) (Told a) → AllAccounted d Later (after get a) (seat_hears d seat get a)

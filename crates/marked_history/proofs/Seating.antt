@@ -11,7 +11,7 @@ use Rattle.daemon_session.specs.declared.events.Kept.{Kept}
 use Rattle.daemon_session.specs.Seats.{Seat, seat_asks, seat_hears}
 use Rattle.recall_daemon.proofs.Outcomes.{Keeps, seat_so}
 use Rattle.migrate_daemon.specs.Known as migrate
-use Rattle.marked_history.specs.Marks.{Exchange}
+use Rattle.marked_history.specs.Marks.{AnsweredCall}
 use Rattle.marked_history.specs.Served.{Shown, with_exchange}
 use Rattle.marked_history.specs.Tokens.{seat_of}
 
@@ -25,6 +25,6 @@ migrate_so P limits k (call.CreateSession old info) a keeps = keeps.is
 migrate_so P limits k c a keeps = keeps.is
 
 -- and of either daemon's
-pub seat_by : (P : Seat → Type 0) (limits : Numbers) (d : Daemon) (k : Shown) (x : Exchange) → Keeps P x.call x.reply (seat_hears d (seat_asks (seat_of d k) x.call) x.call x.reply) → P (seat_of d (with_exchange limits d x k))
+pub seat_by : (P : Seat → Type 0) (limits : Numbers) (d : Daemon) (k : Shown) (x : AnsweredCall) → Keeps P x.call x.reply (seat_hears d (seat_asks (seat_of d k) x.call) x.call x.reply) → P (seat_of d (with_exchange limits d x k))
 seat_by P limits Recall k x keeps = seat_so P k.recall x.call x.reply keeps
 seat_by P limits Migrate k x keeps = migrate_so P limits k.migrate x.call x.reply keeps

@@ -48,7 +48,7 @@ use Rattle.daemon_session.specs.declared.events.Kept.{Kept}
 use Rattle.daemon_session.specs.Tellings.{event_on}
 use Rattle.hsm_core.specs.Answers.{entry_of}
 use Rattle.hsm_core.specs.Packed.{HandsBy}
-use Rattle.marked_history.specs.Marks.{Mark, entries_of, exchange_by, made}
+use Rattle.marked_history.specs.Marks.{Mark, entries_of, answered_call_by, made}
 use Rattle.marked_history.specs.Served.{Shown, nothing_shown, with_entry, learned, shown, IsTold, IsServedBy}
 use Rattle.marked_history.specs.Tokens.{seat_of, IsGranted, IsPresent, Tells, TellsOn, ServedTellsOne}
 use Rattle.marked_history.proofs.Carrying.{Each, each_weaker, none_each, queue_of_each, outstanding_of_each, posted_each}
@@ -279,7 +279,7 @@ module _ (limits : Numbers) (st : State) (done : List Mark) (f : Register) (is :
   ]
 
   step : (by : Option Daemon) (who : Actor) (what : Action) (answer : Answer) → HandsBy st who what answer → IsServedBy by k (record { entry = entry_of who what answer; by = by })
-      → Follows f st.ledger.top (done ++ (record { entry = entry_of who what answer; by = by }) ∷ []) (with_entry limits by (exchange_by who what answer) k)
+      → Follows f st.ledger.top (done ++ (record { entry = entry_of who what answer; by = by }) ∷ []) (with_entry limits by (answered_call_by who what answer) k)
   step None who what answer hands served = record { recall = follows.recall; migrate = follows.migrate; granted = granted_more (record { entry = entry_of who what answer; by = None }) served }
   step (Some Recall) (Session x) (Dm c) (Told a) hands served = record {
     recall = recall_kept (IsEventOf Recall f st.ledger.top) k.recall c a follows.recall (tells_only Recall f st.ledger.top st.sessions x c a is.each hands);

@@ -68,7 +68,7 @@ use Rattle.hsm_core.specs.declared.store.Ready.TheVariants.{Now}
 use Rattle.marked_history.specs.Marks.{Mark, entries_of}
 use Rattle.marked_history.specs.Quiet.{is_quiet_event, is_quiet}
 use Rattle.marked_history.specs.Served.{Shown, nothing_shown, shown, IsTold, Served}
-use Rattle.marked_history.specs.Tokens.{Keeps, IsGranted, IsHindered, IsPresent, TellsOne}
+use Rattle.marked_history.specs.Tokens.{KeepsEvent, IsGranted, IsHindered, IsPresent, TellsOne}
 use Rattle.marked_history.specs.Waiting.{Running, IsServable, IsForeign, IsHeldUp, MayWait, no_more, unserved, PutsOff, RecallRests, MigrateRests}
 use Rattle.marked_history.specs.Waiting.{IsAtRest, SettledWaits}
 use Rattle.marked_history.proofs.Lists.{none_in, none_there, parts}
@@ -372,7 +372,7 @@ module _ (r : Running) (limits : Numbers) (s : Superblock) (base : ℕ) (h : Hel
     told_handle m t handle there same told =
         (tells.kept Recall (record { event = told.0; marked = told.1.0 }) m told.1.1 there (sym (told.2 ∙ same))).handle ∙ ap (λ (y : Handle). Some y) told.3
 
-    refused_kept : (m : Message) → (rests : RecallRests k.recall.seat rest.recall_turn) → IsPresent st.sessions m → Keeps k.recall.seat.kept m.token → IsRefused m
+    refused_kept : (m : Message) → (rests : RecallRests k.recall.seat rest.recall_turn) → IsPresent st.sessions m → KeepsEvent k.recall.seat.kept m.token → IsRefused m
     refused_kept m rests there (x, kept, same) =
         let refused = rests.refused x kept in
         let found = hindered rests x.event.token refused.0 refused.1 refused.4 refused.3 in

@@ -31,15 +31,15 @@ made daemon sid call reply = record { entry = entry_of (Session sid) (Dm call) (
 
 -- ---- what a daemon is told
 
-pub record Exchange : Type 0 where
+pub record AnsweredCall : Type 0 where
   pub sid : Sid
   pub call : DmCall
   pub reply : DmReply
 
 -- the call of a session with its answer
-abbrev pub exchange_by : Actor → Action → Answer → Option Exchange
-exchange_by (Session sid) (Dm call) (Told reply) = Some (record { sid = sid; call = call; reply = reply })
-exchange_by actor action answer = None
+abbrev pub answered_call_by : Actor → Action → Answer → Option AnsweredCall
+answered_call_by (Session sid) (Dm call) (Told reply) = Some (record { sid = sid; call = call; reply = reply })
+answered_call_by actor action answer = None
 
-abbrev pub exchange_in : Entry → Option Exchange
-exchange_in e = exchange_by e.actor e.action e.answer
+abbrev pub answered_call_in : Entry → Option AnsweredCall
+answered_call_in e = answered_call_by e.actor e.action e.answer

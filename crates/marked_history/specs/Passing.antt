@@ -55,13 +55,13 @@ IsBetween call = ⊥
 abbrev pub IsBehindPass : Mark → Type 0
 IsBehindPass m = (sid : Sid) × (call : DmCall) × (answer : DmReply) × (m ≡ made Migrate sid call answer) × IsBetween call
 
-abbrev pub GoesOn : List Mark → Type 0
-GoesOn [] = ⊥
-GoesOn (next ∷ rest) = IsBehindPass next
+abbrev pub BeginsBehindPass : List Mark → Type 0
+BeginsBehindPass [] = ⊥
+BeginsBehindPass (next ∷ rest) = IsBehindPass next
 
 -- The pass is over: the daemon goes on behind it, or its session is gone. One whose daemon was killed within it need not be.
 abbrev pub IsPassOver : (during rest : List Mark) → Type 0
-IsPassOver during rest = GoesOn rest ⊎ HasLostSession Migrate during
+IsPassOver during rest = BeginsBehindPass rest ⊎ HasLostSession Migrate during
 
 -- ---- what is known of a segment in a pass
 

@@ -25,9 +25,9 @@ use Rattle.daemon_session.specs.Seats.{Seat, first_id, IsSeated, MayGoOn}
 use Rattle.recall_daemon.specs.Known as recall
 use Rattle.recall_daemon.specs.declared.away.Away.{Away}
 use Rattle.migrate_daemon.specs.Known as migrate
-use Rattle.migrate_daemon.specs.Machine.{IsServed, NoneServed, answer_of}
+use Rattle.migrate_daemon.specs.Machine.{CameBeforePass, NoneServed, answer_of}
 use Rattle.migrate_daemon.specs.Passes.{whole_file}
-use Rattle.marked_history.specs.Marks.{Mark, Exchange, exchange_in}
+use Rattle.marked_history.specs.Marks.{Mark, AnsweredCall, answered_call_in}
 
 -- ---- what is told
 
@@ -39,16 +39,16 @@ pub record Shown : Type 0 where
 abbrev pub nothing_shown : Shown
 nothing_shown = record { recall = recall.nothing_known; migrate = migrate.nothing_known true }
 
-abbrev pub with_exchange : Numbers → Daemon → Exchange → Shown → Shown
+abbrev pub with_exchange : Numbers → Daemon → AnsweredCall → Shown → Shown
 with_exchange limits Recall x k = record k { recall = recall.hears (recall.asks k.recall x.call) x.call x.reply }
 with_exchange limits Migrate x k = record k { migrate = migrate.hears limits (migrate.asks k.migrate x.call) x.call x.reply }
 
-abbrev pub with_entry : Numbers → Option Daemon → Option Exchange → Shown → Shown
+abbrev pub with_entry : Numbers → Option Daemon → Option AnsweredCall → Shown → Shown
 with_entry limits (Some daemon) (Some x) k = with_exchange limits daemon x k
 with_entry limits by x k = k
 
 abbrev pub learned : Numbers → Shown → Mark → Shown
-learned limits k m = with_entry limits m.by (exchange_in m.entry) k
+learned limits k m = with_entry limits m.by (answered_call_in m.entry) k
 
 abbrev pub shown : Numbers → Shown → List Mark → Shown
 shown limits k [] = k
@@ -67,10 +67,10 @@ IsOf entry (Failed volume object before after) = (volume ≡ (entry_place entry)
 IsOf entry (Damaged volume object want got) = (volume ≡ (entry_place entry).volume) × (object ≡ (entry_place entry).object) × (want ≡ entry_print entry)
 
 -- A fault answers for a needed segment of the last segments that it was told. So does an object that isn't there.
-abbrev pub IsReason : List Kept → recall.Hand → Response → Type 0
-IsReason kept hand Continue = (hand.gone ≡ true) ⊎ recall.IsReady kept hand
-IsReason kept hand (Abort error) = ((error ≡ 2) × ((a : Away) × recall.IsNeeded kept hand a)) ⊎ ((error ≡ 28) × (hand.short ≡ true))
-IsReason kept hand (Media cause) = (a : Away) × recall.IsNeeded kept hand a × IsOf a.entry cause
+abbrev pub IsReasonTold : List Kept → recall.Hand → Response → Type 0
+IsReasonTold kept hand Continue = (hand.gone ≡ true) ⊎ recall.IsReady kept hand
+IsReasonTold kept hand (Abort error) = ((error ≡ 2) × ((a : Away) × recall.IsNeeded kept hand a)) ⊎ ((error ≡ 28) × (hand.short ≡ true))
+IsReasonTold kept hand (Media cause) = (a : Away) × recall.IsNeeded kept hand a × IsOf a.entry cause
 
 -- it was told of that event, on that file
 abbrev pub IsTold : List Kept → Token → Handle → Type 0
@@ -82,7 +82,7 @@ RecallMay k sid (call.RequestRight t h right) = IsSeated k.seat sid × (right �
 RecallMay k sid (call.GetFileAttr t h) = IsSeated k.seat sid × ((hand : recall.Hand) × recall.Holds k t h hand)
 RecallMay k sid (call.GetAllocInfo t h) = IsSeated k.seat sid × ((hand : recall.Hand) × recall.Holds k t h hand)
 RecallMay k sid (call.Restore t h segment bytes) = IsSeated k.seat sid × ((hand : recall.Hand) × (a : Away) × recall.Holds k t h hand × recall.IsNeeded k.seat.kept hand a × (a.segment ≡ segment) × (print_of bytes ≡ entry_print a.entry))
-RecallMay k sid (call.Respond t response) = IsSeated k.seat sid × ((hand : recall.Hand) × (k.hand ≡ Some hand) × (hand.token ≡ t) × IsReason k.seat.kept hand response)
+RecallMay k sid (call.Respond t response) = IsSeated k.seat sid × ((hand : recall.Hand) × (k.hand ≡ Some hand) × (hand.token ≡ t) × IsReasonTold k.seat.kept hand response)
 RecallMay k sid other = MayCome Recall k.seat sid other
 
 -- It answers an event after a pass that began when it had the event's message, by what that pass has punched, and begins no other before.
@@ -95,7 +95,7 @@ MigrateMay k sid (call.SetRegion t h regions) = IsSeated k.seat sid × (t ≡ no
 MigrateMay k sid (call.ReadInvis t h offset len) = IsSeated k.seat sid × (t ≡ no_token)
 MigrateMay k sid (call.Seal t h segment entry) = IsSeated k.seat sid × (t ≡ no_token)
 MigrateMay k sid (call.PunchHole t h offset len) = IsSeated k.seat sid × (t ≡ no_token)
-MigrateMay k sid (call.Respond t response) = IsSeated k.seat sid × IsServed k.seat.kept t × (response ≡ answer_of k.punched)
+MigrateMay k sid (call.Respond t response) = IsSeated k.seat sid × CameBeforePass k.seat.kept t × (response ≡ answer_of k.punched)
 MigrateMay k sid other = MayCome Migrate k.seat sid other
 
 abbrev pub MayCall : Daemon → Shown → Sid → DmCall → Type 0
@@ -109,13 +109,13 @@ abbrev pub NamesNoFault : Action → Type 0
 NamesNoFault (Dm (call.Respond t (Media cause))) = ⊥
 NamesNoFault action = Unit {0}
 
-abbrev pub MayExchange : Daemon → Shown → Option Exchange → Type 0
+abbrev pub MayExchange : Daemon → Shown → Option AnsweredCall → Type 0
 MayExchange daemon k (Some x) = MayCall daemon k x.sid x.call
 MayExchange daemon k None = ⊥
 
 -- A daemon's entry is a call that it may make, and no other entry answers an event for a fault of a medium.
 abbrev pub IsServedBy : Option Daemon → Shown → Mark → Type 0
-IsServedBy (Some daemon) k m = MayExchange daemon k (exchange_in m.entry)
+IsServedBy (Some daemon) k m = MayExchange daemon k (answered_call_in m.entry)
 IsServedBy None k m = NamesNoFault m.entry.action
 
 abbrev pub ServedFrom : Numbers → Shown → List Mark → Type 0

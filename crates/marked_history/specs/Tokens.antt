@@ -67,13 +67,13 @@ seat_of Recall k = k.recall.seat
 seat_of Migrate k = k.migrate.seat
 
 -- the daemon keeps the token's event
-abbrev pub Keeps : List Kept → Token → Type 0
-Keeps kept t = (k : Kept) × Contains kept k × (k.event.token ≡ t)
+abbrev pub KeepsEvent : List Kept → Token → Type 0
+KeepsEvent kept t = (k : Kept) × Contains kept k × (k.event.token ≡ t)
 
 -- Of its kinds a daemon with a session keeps each event that is outstanding to that session, but for those that lines of the script took.
 abbrev pub KeepsAll : Daemon → Numbers → Superblock → State → List Mark → Type 0
 KeepsAll daemon limits s st marks = (sid : Sid) (m : Message) → IsSeated (seat_of daemon (shown limits nothing_shown marks)) sid → Contains (outstanding_of sid (state_by s st (entries_of marks)).sessions) m → takes (kinds_of daemon) m.kind ≡ true
-    → Keeps (seat_of daemon (shown limits nothing_shown marks)).kept m.token ⊎ IsTaken daemon marks m.token
+    → KeepsEvent (seat_of daemon (shown limits nothing_shown marks)).kept m.token ⊎ IsTaken daemon marks m.token
 
 abbrev pub ServedKeepsAll : Daemon → Numbers → Superblock → ℕ → Held → List Mark → List Entry → Type 0
 ServedKeepsAll daemon limits s base h marks es = entries_of marks ≡ es → Served limits marks → IsRunSeen ⊥ s base h es → ArePacked s (just_opened base h) es → KeepsAll daemon limits s (just_opened base h) marks

@@ -33,7 +33,7 @@ use Rattle.migrate_daemon.specs.Passes.{Pass, begun_pass}
 use Rattle.migrate_daemon.specs.Shares.{share}
 use Rattle.migrate_daemon.specs.Machine.{IsTable, HasAll, IsFree, WantsSpace, NoneServed}
 use Rattle.migrate_daemon.specs.Hearing.{is_gone, has_no_more, space_in, messages_in, table_in}
-use Rattle.migrate_daemon.specs.Standing.{Standing, resting, taking_up}
+use Rattle.migrate_daemon.specs.MachineStates.{Standing, resting, taking_up}
 use Rattle.migrate_daemon.specs.Stages.{rests, looks}
 use Rattle.migrate_daemon.specs.Turns.{Gives, Turns}
 use Rattle.migrate_daemon.proofs.Turning.{HasTable, over_outside, turns_out}

@@ -33,7 +33,7 @@ use Rattle.migrate_daemon.specs.Passes.{Pass, Exchange, Passed, IsDone, IsListed
 use Rattle.migrate_daemon.specs.Passes.{skip_of, punches, copies}
 use Rattle.migrate_daemon.specs.Machine.{MayTake, SaysNothing, LeadsOn, SkipsAt, IsCovered, ComesAnew, HasAll}
 use Rattle.migrate_daemon.specs.Hearing.{is_gone, is_done, refusal_in, regions_in, reply_in, copied_in}
-use Rattle.migrate_daemon.specs.Standing.{Standing}
+use Rattle.migrate_daemon.specs.MachineStates.{Standing}
 use Rattle.migrate_daemon.specs.Stages.{Holds, Suits, asked_for, works}
 use Rattle.migrate_daemon.specs.Turns.{Moves, Gives, Turns}
 use Rattle.migrate_daemon.proofs.Turning.{HasTable, turns, passed_longer}

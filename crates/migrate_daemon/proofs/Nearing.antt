@@ -16,7 +16,7 @@ use Rattle.hsm_policy.specs.Settings.{Numbers}
 use Rattle.hsm_policy.specs.declared.picking.Picked.{Picked}
 use Rattle.migrate_daemon.specs.Known.{Known, knows_by}
 use Rattle.migrate_daemon.specs.Passes.{Pass, begun_pass, IsCallOf, IsCopy, IsEnd, IsFull, IsSkip, EndsAt}
-use Rattle.migrate_daemon.specs.Machine.{Machine, GoesOn, MayGive, MayPass, MayTake, IsOfPass, IsTable, IsToCopyAgain, SaysNothing, LeadsOn, SkipsAt}
+use Rattle.migrate_daemon.specs.Machine.{Machine, StepsOn, MayGive, MayPass, MayTake, IsOfPass, IsTable, IsToCopyAgain, SaysNothing, LeadsOn, SkipsAt}
 use Rattle.migrate_daemon.specs.Machine.{VolumeStays, Stays, ComesTo}
 use Rattle.migrate_daemon.specs.Bounds.{IsPassing, SaysSomething, step_of, acts_left, most_acts}
 use Rattle.migrate_daemon.proofs.Turning.{call_of_pass}
@@ -65,7 +65,7 @@ full_ends volumes sid p volume asked (heard.Copied (Err copying.NoVolume)) last 
 full_ends volumes sid p volume (Copy v h segment bytes) told last copy full = absurd full
 full_ends volumes sid p volume asked told last copy full = absurd full
 
--- ---- what GoesOn says of an act of a pass
+-- ---- what StepsOn says of an act of a pass
 
 of_pass : (sid : Sid) (p : Picked) (volume : ℕ) (asked : Act) → IsCallOf sid p asked ⊎ IsCopy p volume asked → IsOfPass asked
 of_pass sid p volume asked (inl call) = call_of_pass sid p asked call
@@ -238,7 +238,7 @@ fewer volumes old new p q asked told act at on at' room none moves says take of'
       | inr next ↦ fewer_next old new volumes asked act moves.picks next (within new.picks new.at q at') less of of'
     ]
 
-pub pass_comes_nearer : (old new : Machine) (p : Picked) (told : Heard) (act : Act) → IsPassing old p → GoesOn old told act new → IsOfPass act
+pub pass_comes_nearer : (old new : Machine) (p : Picked) (told : Heard) (act : Act) → IsPassing old p → StepsOn old told act new → IsOfPass act
     → ((q : Picked) × IsPassing new q) × (SaysSomething old p told → acts_left new < acts_left old)
 pass_comes_nearer old new p told act passing next of =
     let volumes : ℕ = old.limits.volumes in
@@ -274,7 +274,7 @@ fewer_than_most volumes pass sid picks act is some of =
     let here : 0 < length picks = subst (λ (x : Pass). x.at < length x.picks) is some in
     subst (λ (x : Pass). 6 * (length x.picks - x.at) + 2 * (volumes - (x.volume + 1)) - step_of act < most_acts volumes x.picks) (sym is) (at_first (length picks) volumes (step_of act) here (some_step act of))
 
-pub pass_begins : (old new : Machine) (sid : Sid) (told : Heard) (act : Act) → 0 < old.limits.volumes → old.asked ≡ Dm sid GetTable → IsTable told → GoesOn old told act new → IsOfPass act
+pub pass_begins : (old new : Machine) (sid : Sid) (told : Heard) (act : Act) → 0 < old.limits.volumes → old.asked ≡ Dm sid GetTable → IsTable told → StepsOn old told act new → IsOfPass act
     → ((p : Picked) × IsPassing new p) × (acts_left new < most_acts new.limits.volumes new.pass.picks)
 pass_begins old new sid told act some is has next of =
     let volumes : ℕ = old.limits.volumes in

@@ -28,7 +28,7 @@ use Rattle.migrate_daemon.specs.Known.{Known, asks_by, knows_by, hears}
 use Rattle.migrate_daemon.specs.Passes.{Pass, IsOver, IsCallOf, IsFull}
 use Rattle.migrate_daemon.specs.Machine.{IsOfPass, HasAll, NoneServed, MayGive, IsFree}
 use Rattle.migrate_daemon.specs.Hearing.{is_gone}
-use Rattle.migrate_daemon.specs.Standing.{Standing, begun, membership}
+use Rattle.migrate_daemon.specs.MachineStates.{Standing, begun, membership}
 use Rattle.migrate_daemon.specs.Stages.{Stands, IsEntering, IsEntry, HasNone, asked_for, begins, is_lost}
 use Rattle.migrate_daemon.specs.Turns.{Moves, Gives, Turns}
 use Rattle.migrate_daemon.proofs.Turning.{HasTable, turns, moves_none}

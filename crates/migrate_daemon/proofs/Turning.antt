@@ -23,7 +23,7 @@ use Rattle.migrate_daemon.specs.Known.{knows_by}
 use Rattle.migrate_daemon.specs.Passes.{Pass, Exchange, Passed, IsDone, IsListed, IsCallOf, IsCopy, IsEnd, IsEndedBy, IsFull, IsOver, told_since}
 use Rattle.migrate_daemon.specs.Machine.{IsOfPass, Stays, ComesTo}
 use Rattle.migrate_daemon.specs.Stages.{Stands, asked_for}
-use Rattle.migrate_daemon.specs.Standing.{Standing}
+use Rattle.migrate_daemon.specs.MachineStates.{Standing}
 use Rattle.migrate_daemon.specs.Turns.{Moves, Gives, Turns}
 
 -- ---- which acts are of a pass

@@ -3,7 +3,7 @@ pub mod Known
 pub mod Passes
 pub mod Machine
 pub mod Hearing
-pub mod Standing
+pub mod MachineStates
 pub mod Stages
 pub mod Turns
 pub mod Bounds

@@ -59,8 +59,8 @@ IsOfPass act = ⊥
 -- ---- between passes
 
 -- its message was there before the last pass began
-abbrev pub IsServed : List Kept → Token → Type 0
-IsServed kept t = (k : Kept) × Contains kept k × (k.event.token ≡ t) × (k.marked ≡ true)
+abbrev pub CameBeforePass : List Kept → Token → Type 0
+CameBeforePass kept t = (k : Kept) × Contains kept k × (k.event.token ≡ t) × (k.marked ≡ true)
 
 abbrev pub NoneServed : List Kept → Type 0
 NoneServed kept = All (λ (k : Kept). k.marked ≡ false) kept
@@ -184,7 +184,7 @@ abbrev pub MayCall : Numbers → Known → Pass → Act → Heard → Sid → Dm
 MayCall limits k pass asked told sid GetSpace = IsFree k pass sid × WantsSpace k
 MayCall limits k pass asked told sid (GetEvents most room) = IsFree k pass sid × (most ≡ 0) × (room ≡ buffer_bytes) × (WantsSpace k → ⊥) × (HasAll asked told → ⊥)
 MayCall limits k pass asked told sid GetTable = IsFree k pass sid × MayLook limits k asked told sid
-MayCall limits k pass asked told sid (Respond t response) = IsSeated k.seat sid × IsOver pass × IsServed k.seat.kept t × (response ≡ answer_of k.punched)
+MayCall limits k pass asked told sid (Respond t response) = IsSeated k.seat sid × IsOver pass × CameBeforePass k.seat.kept t × (response ≡ answer_of k.punched)
 MayCall limits k pass asked told sid call = MayEnter Migrate k.seat asked told sid call
 
 -- it knows of the space and has all events, each is answered, and no pass is due; or it was refused a session
@@ -229,7 +229,7 @@ ComesTo limits old asked told new = Stays limits.volumes old asked told new
 
 -- It has heard the answer to what it asked, and gives an act that it may give. Where that isn't one of a pass, the last pass is over. Where its session is
 -- gone it begins as at its start.
-pub record GoesOn (old : Machine) (told : Heard) (act : Act) (new : Machine) : Type 0 where
+pub record StepsOn (old : Machine) (told : Heard) (act : Act) (new : Machine) : Type 0 where
   pub limits : new.limits ≡ old.limits
   pub known : new.known ≡ asks_by (knows_by old.limits old.known old.asked told) act
   pub asked : new.asked ≡ act

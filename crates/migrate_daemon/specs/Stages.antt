@@ -18,7 +18,7 @@ use Rattle.migrate_daemon.specs.declared.stages.Work.TheVariants.{Covering, Sett
 use Rattle.migrate_daemon.specs.Hearing.{is_gone}
 use Rattle.migrate_daemon.specs.Passes.{Pass, IsOver, asks_regions, sets_regions, reads, seals, punches, IsCopy}
 use Rattle.migrate_daemon.specs.Machine.{IsFree, IsAt, NoneServed}
-use Rattle.migrate_daemon.specs.Standing.{Standing}
+use Rattle.migrate_daemon.specs.MachineStates.{Standing}
 
 abbrev pub asked_for : Sid → Picked → Work → Act
 asked_for sid p Covering = asks_regions sid p

@@ -14,8 +14,8 @@ use Rattle.migrate_daemon.specs.declared.stages.Turn.{Turn}
 use Rattle.migrate_daemon.specs.declared.stages.Work.{Work}
 use Rattle.migrate_daemon.specs.Known.{Known, asks_by}
 use Rattle.migrate_daemon.specs.Passes.{Pass, Exchange, Passed, IsSkip, IsEnd}
-use Rattle.migrate_daemon.specs.Machine.{Machine, GoesOn, MayGive, Stays, SaysNothing}
-use Rattle.migrate_daemon.specs.Standing.{Standing}
+use Rattle.migrate_daemon.specs.Machine.{Machine, StepsOn, MayGive, Stays, SaysNothing}
+use Rattle.migrate_daemon.specs.MachineStates.{Standing}
 use Rattle.migrate_daemon.specs.Stages.{Stands, asked_for}
 
 -- what a refusal comes to, of that call of a pass
@@ -40,5 +40,5 @@ abbrev pub machine : Standing → Pass → Act → Machine
 machine s pass asked = record { limits = s.limits; known = s.known; asked = asked; pass = pass }
 
 pub record Turns (old : Standing) (before : Pass) (asked : Act) (told : Heard) (new : Standing) (after : Pass) (turn : Turn) : Type 0 where
-  pub goes : GoesOn (machine old before asked) told turn.act (machine new after turn.act)
+  pub goes : StepsOn (machine old before asked) told turn.act (machine new after turn.act)
   pub stands : Stands turn.stage new after turn.act

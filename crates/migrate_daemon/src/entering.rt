@@ -5,7 +5,7 @@ ghost use Rattle.hsm_types.specs.declared.daemons.Heard.{Heard as Told};
 ghost use Rattle.migrate_daemon.specs.Hearing.{is_gone};
 ghost use Rattle.migrate_daemon.specs.Passes.{Pass};
 ghost use Rattle.migrate_daemon.specs.Stages.{Stands, IsEntering, IsEntry, begins, is_lost};
-ghost use Rattle.migrate_daemon.specs.Standing.{begun};
+ghost use Rattle.migrate_daemon.specs.MachineStates.{begun};
 ghost use Rattle.migrate_daemon.specs.Turns.{Turns};
 
 use crate::hearing::is_gone;

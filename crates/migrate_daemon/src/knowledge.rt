@@ -8,9 +8,9 @@ ghost use Rattle.hsm_types.specs.declared.daemons.Daemon.TheVariants.{Migrate};
 ghost use Rattle.hsm_types.specs.declared.daemons.Act.TheVariants.{Dm, Idle};
 ghost use Rattle.hsm_types.specs.declared.dm.DmCall.TheVariants.{GetAllSessions};
 ghost use Rattle.migrate_daemon.specs.Known.{nothing_known, is_due};
-ghost use Rattle.migrate_daemon.specs.Machine.{WantsSpace, IsServed, NoneServed, answer_of};
+ghost use Rattle.migrate_daemon.specs.Machine.{WantsSpace, CameBeforePass, NoneServed, answer_of};
 ghost use Rattle.migrate_daemon.specs.Shares.{share};
-ghost use Rattle.migrate_daemon.specs.Standing.{begun, resting, taking_up, with_known, with_kept, membership};
+ghost use Rattle.migrate_daemon.specs.MachineStates.{begun, resting, taking_up, with_known, with_kept, membership};
 
 use crate::shares::{Space, is_above, share};
 use daemon_session::{Member, Step};
@@ -32,7 +32,7 @@ pub(crate) struct Knowledge {
 impl Model for Knowledge {
     ghost use Rattle.std.specs.Prelude.{◌≡◌};
     ghost use Rattle.hsm_types.specs.declared.daemons.Daemon.TheVariants.{Migrate};
-    ghost use Rattle.migrate_daemon.specs.Standing.{Standing};
+    ghost use Rattle.migrate_daemon.specs.MachineStates.{Standing};
 
     ghost Value = { Standing };
 
@@ -152,7 +152,7 @@ impl Knowledge {
 
     /// The first event that the last pass served and that is not answered.
     pub(crate) fn next_served(&self) -> Option<Token>
-        ensures { MatchOption result (NoneServed self.now.known.seat.kept) (IsServed self.now.known.seat.kept) }
+        ensures { MatchOption result (NoneServed self.now.known.seat.kept) (CameBeforePass self.now.known.seat.kept) }
     {
         let kept = self.member.kept().iter().find(|kept| kept.marked)?;
         Some(kept.event.token)

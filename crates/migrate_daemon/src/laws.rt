@@ -7,14 +7,14 @@ ghost use Rattle.hsm_types.specs.declared.dm.DmCall.TheVariants.{GetTable};
 ghost use Rattle.hsm_types.specs.declared.keys.Sid.{Sid};
 ghost use Rattle.hsm_policy.specs.declared.picking.Picked.{Picked};
 ghost use Rattle.migrate_daemon.specs.Bounds.{IsPassing, SaysSomething, acts_left, most_acts};
-ghost use Rattle.migrate_daemon.specs.Machine.{GoesOn, IsOfPass, IsTable, Machine};
+ghost use Rattle.migrate_daemon.specs.Machine.{StepsOn, IsOfPass, IsTable, Machine};
 
 /// A pass begins with an act on a segment, and from there on has fewer acts than its picks and volumes allow.
 pub fn pass_begins()
-    ensures { (old new : Machine) (sid : Sid) (told : Heard) (act : Act) → 0 < old.limits.volumes → old.asked ≡ Dm sid GetTable → IsTable told → GoesOn old told act new → IsOfPass act → ((p : Picked) × IsPassing new p) × (acts_left new < most_acts new.limits.volumes new.pass.picks) }
+    ensures { (old new : Machine) (sid : Sid) (told : Heard) (act : Act) → 0 < old.limits.volumes → old.asked ≡ Dm sid GetTable → IsTable told → StepsOn old told act new → IsOfPass act → ((p : Picked) × IsPassing new p) × (acts_left new < most_acts new.limits.volumes new.pass.picks) }
 {}
 
 /// With each answer that says something a pass comes nearer to its end, as long as it goes on.
 pub fn pass_comes_nearer()
-    ensures { (old new : Machine) (p : Picked) (told : Heard) (act : Act) → IsPassing old p → GoesOn old told act new → IsOfPass act → ((q : Picked) × IsPassing new q) × (SaysSomething old p told → acts_left new < acts_left old) }
+    ensures { (old new : Machine) (p : Picked) (told : Heard) (act : Act) → IsPassing old p → StepsOn old told act new → IsOfPass act → ((q : Picked) × IsPassing new q) × (SaysSomething old p told → acts_left new < acts_left old) }
 {}

@@ -1,7 +1,7 @@
 //! The migration machine.
 ghost use Rattle.std.specs.Prelude.{◌≡◌, ◌↔◌, IsTrue, false, None, Some, IfOk, OnErr, MatchOption};
 ghost use Rattle.hsm_types.specs.declared.daemons.Act.{Act as Acted};
-ghost use Rattle.migrate_daemon.specs.Machine.{started, freshened, GoesOn, IsOfPass, IsWithin};
+ghost use Rattle.migrate_daemon.specs.Machine.{started, freshened, StepsOn, IsOfPass, IsWithin};
 ghost use Rattle.migrate_daemon.specs.Passes.{IsOver};
 ghost use Rattle.migrate_daemon.specs.Stages.{Stands, is_lost};
 ghost use Rattle.migrate_daemon.specs.Turns.{Turns};
@@ -60,7 +60,7 @@ impl Migrator {
     /// What it does next, when it hears what became of what it did. Where memory is wanting nothing changes, but what it heard is dropped.
     pub fn next(&mut self, last: Heard) -> Result<Act, AllocError>
         requires { IsWithin last }
-        ensures ok { IfOk result (λ act. GoesOn self.old last act self.new) }
+        ensures ok { IfOk result (λ act. StepsOn self.old last act self.new) }
         ensures err { OnErr result (self.new ≡ self.old) }
     {
         let turn = turn(self.stage, &mut self.knowledge, &mut self.pass, last)?;

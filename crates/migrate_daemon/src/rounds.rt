@@ -13,7 +13,7 @@ ghost use Rattle.migrate_daemon.specs.Known.{knows_by};
 ghost use Rattle.migrate_daemon.specs.Machine.{HasAll, IsFree};
 ghost use Rattle.migrate_daemon.specs.Passes.{Pass, IsOver};
 ghost use Rattle.migrate_daemon.specs.Stages.{looks, measures, rests};
-ghost use Rattle.migrate_daemon.specs.Standing.{resting, with_known};
+ghost use Rattle.migrate_daemon.specs.MachineStates.{resting, with_known};
 ghost use Rattle.migrate_daemon.specs.Turns.{Gives, Turns};
 
 use crate::hearing::{has_no_more, is_settled, messages_of, space_of};

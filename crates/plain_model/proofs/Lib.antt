@@ -6,11 +6,11 @@ pub mod Bodies
 pub mod Meeting
 pub mod Sound
 pub mod Unstopped
-pub mod Standing
+pub mod SoundEffects
 pub mod Syncing
 pub mod Orders
-pub mod Moving
-pub mod Told
+pub mod SegmentChanges
+pub mod SessionAnswers
 pub mod Ruling
 pub mod Steps
 pub mod Sides

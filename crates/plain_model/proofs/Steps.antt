@@ -35,9 +35,9 @@ use Rattle.plain_model.specs.Stands.{HasBody, Stands, StandsFor, InOrder}
 use Rattle.plain_model.specs.Exact.{IsOwn, IsAnswer, left_own, left_answered, left_by, Exact, state_by}
 use Rattle.plain_model.specs.Laws.{IsOpening}
 use Rattle.plain_model.proofs.Unstopped.{read_free, call_sound}
-use Rattle.plain_model.proofs.Standing.{IsSoundAt, sound_at, affected_stands, names_stand, file_stands}
+use Rattle.plain_model.proofs.SoundEffects.{IsSoundAt, sound_at, affected_stands, names_stand, file_stands}
 use Rattle.plain_model.proofs.Faultless.{fault_is}
-use Rattle.plain_model.proofs.Told.{same_read, may_tell, told_stands}
+use Rattle.plain_model.proofs.SessionAnswers.{same_read, may_tell, told_stands}
 use Rattle.plain_model.proofs.Judged.{none_first, Says, meant_says}
 use Rattle.plain_model.proofs.Ruling.{wants, short_by, rules_follow}
 use Rattle.plain_model.proofs.Orders.{event_ordered, ordered_at_first}

@@ -83,7 +83,7 @@ dropped_leaves most old asked told t settled waits few = inl (record {
 -- ---- an event that is in hand
 
 -- a call on it was made
-record IsServed (most : ℕ) (old : Known) (asked : Act) (t : Token) : Type 0 where
+record ServesToken (most : ℕ) (old : Known) (asked : Act) (t : Token) : Type 0 where
   hand : Hand
   is : old.hand ≡ Some hand
   token : hand.token ≡ t
@@ -98,7 +98,7 @@ record IsServed (most : ℕ) (old : Known) (asked : Act) (t : Token) : Type 0 wh
 abbrev Fetches : ℕ → Hand → ℕ → Type 0
 Fetches most hand made = hand.gone ≡ false → hand.short ≡ false → (away : List Away) (a : Away) → hand.away ≡ Some away → Contains away a → (length away ≤ most) × (made < 4 + 2 * (most - length away))
 
-held : (most : ℕ) (old : Known) (asked : Act) (told : Heard) (t : Token) (f : Hand → Hand) (served : IsServed most old asked t) → (f served.hand).token ≡ served.hand.token
+held : (most : ℕ) (old : Known) (asked : Act) (told : Heard) (t : Token) (f : Hand → Hand) (served : ServesToken most old asked t) → (f served.hand).token ≡ served.hand.token
     → (acts_made most old.hand asked ≤ 2 → (f served.hand).away ≡ served.hand.away) → Fetches most (f served.hand) (acts_made most old.hand asked) → Leaves most old asked told (handling f old)
 held most old asked told t f served token away fetches = inr (record {
   hand = f served.hand;
@@ -127,14 +127,14 @@ ends_leave most old asked told t answer settled waits few lives = record {
   drops = λ gone. dropped_leaves most old asked told t settled waits few;
 }
 
-gone_leaves : (most : ℕ) (old : Known) (asked : Act) (told : Heard) (t : Token) → IsServed most old asked t → Leaves most old asked told (handling (λ (h : Hand). record h { gone = true }) old)
+gone_leaves : (most : ℕ) (old : Known) (asked : Act) (told : Heard) (t : Token) → ServesToken most old asked t → Leaves most old asked told (handling (λ (h : Hand). record h { gone = true }) old)
 gone_leaves most old asked told t served = held most old asked told t (λ (h : Hand). record h { gone = true }) served refl (λ early. refl) (λ gone short away a is has. absurd (true≢false gone))
 
-failed_leaves : (most : ℕ) (old : Known) (asked : Act) (told : Heard) (t : Token) (answer : DmReply) → IsServed most old asked t → Answers answer → Leaves most old asked told (failed t answer old)
+failed_leaves : (most : ℕ) (old : Known) (asked : Act) (told : Heard) (t : Token) (answer : DmReply) → ServesToken most old asked t → Answers answer → Leaves most old asked told (failed t answer old)
 failed_leaves most old asked told t answer served lives =
     failed_so (λ f. Leaves most old asked told (f old)) t answer (gone_leaves most old asked told t served) (ends_leave most old asked told t answer served.settled served.waits (omega (arith, served.few)) lives)
 
-unrestored_leaves : (most : ℕ) (old : Known) (asked : Act) (told : Heard) (t : Token) (w : DmRefusal) → IsServed most old asked t → Answers (reply.Refused w) → Leaves most old asked told (unrestored t w old)
+unrestored_leaves : (most : ℕ) (old : Known) (asked : Act) (told : Heard) (t : Token) (w : DmRefusal) → ServesToken most old asked t → Answers (reply.Refused w) → Leaves most old asked told (unrestored t w old)
 unrestored_leaves most old asked told t w served lives =
     unrestored_so (λ f. Leaves most old asked told (f old)) t w (gone_leaves most old asked told t served)
     (held most old asked told t (λ (h : Hand). record h { short = true }) served refl (λ early. refl) (λ gone short away a is has. absurd (true≢false short)))
@@ -146,7 +146,7 @@ none_is_away : (most made : ℕ) (hand : Hand) → hand.away ≡ None → Fetche
 none_is_away most made hand none gone short away a is has = let none_is = rw none at is in cc
 
 -- the answer changes nothing of it
-stays : (most : ℕ) (old : Known) (asked : Act) (told : Heard) (t : Token) (served : IsServed most old asked t) → Fetches most served.hand (acts_made most old.hand asked) → Leaves most old asked told old
+stays : (most : ℕ) (old : Known) (asked : Act) (told : Heard) (t : Token) (served : ServesToken most old asked t) → Fetches most served.hand (acts_made most old.hand asked) → Leaves most old asked told old
 stays most old asked told t served fetches = inr (record {
   hand = served.hand;
   is = served.is;
@@ -163,7 +163,7 @@ stays most old asked told t served fetches = inr (record {
 not_fetched : (sid : Sid) (call : DmCall) (entry : StubEntry) → Dm sid call ≡ Fetch entry → ⊥
 not_fetched sid call entry is = cc
 
-abbrev served_begun : (most : ℕ) (old : Known) (sid : Sid) (call : DmCall) (t : Token) → IsSettled old.seat → IsWaiting t old.seat.kept → IsBegun old t → acts_made most old.hand (Dm sid call) < acts_of_one most → (IsLast (Dm sid call) → ⊥) → IsServed most old (Dm sid call) t
+abbrev served_begun : (most : ℕ) (old : Known) (sid : Sid) (call : DmCall) (t : Token) → IsSettled old.seat → IsWaiting t old.seat.kept → IsBegun old t → acts_made most old.hand (Dm sid call) < acts_of_one most → (IsLast (Dm sid call) → ⊥) → ServesToken most old (Dm sid call) t
 served_begun most old sid call t settled waits begun few serves = record {
   hand = begun.hand;
   is = begun.is;
@@ -213,7 +213,7 @@ back_so most made j hand there told few less is_made gone short away a is has =
     let same : filter (not_of j) there ≡ away = let now = rw told at is in cc in
     subst (λ l. (length l ≤ most) × (made < 4 + 2 * (most - length l))) same (omega (arith, few, less), omega (arith, few, less, is_made))
 
-abbrev served_bringing : (most : ℕ) (old : Known) (sid : Sid) (t : Token) (h : Handle) (j : ℕ) (bytes : List ℕ) (a : Away) → IsSettled old.seat → IsWaiting t old.seat.kept → IsBringing most old t a → IsServed most old (Dm sid (Restore t h j bytes)) t
+abbrev served_bringing : (most : ℕ) (old : Known) (sid : Sid) (t : Token) (h : Handle) (j : ℕ) (bytes : List ℕ) (a : Away) → IsSettled old.seat → IsWaiting t old.seat.kept → IsBringing most old t a → ServesToken most old (Dm sid (Restore t h j bytes)) t
 served_bringing most old sid t h j bytes a settled waits bringing =
     let some = some_away bringing.away a bringing.one in
     let few = bringing.few in

@@ -21,7 +21,7 @@ use Rattle.daemon_session.specs.Members.{IsRefusedOne}
 use Rattle.daemon_session.specs.Seats.{Seat, Refuses, NeedsNone, LeadsOn, MayMake, MayEnter}
 use Rattle.recall_daemon.specs.declared.away.Away.{Away}
 use Rattle.recall_daemon.specs.Known.{Known, Hand, taken, asks_by, ArePutOff, HasAll, MayFetch, MayRest, MayCall, MayGive}
-use Rattle.recall_daemon.specs.Machine.{Machine, GoesOn}
+use Rattle.recall_daemon.specs.Machine.{Machine, StepsOn}
 use Rattle.recall_daemon.specs.Bounds.{waiting, acts_of_one, acts_made, acts_left, still_away, IsWaiting, IsOnEvent, IsSettled, IsAtWork, TellsOfFew}
 use Rattle.recall_daemon.specs.Bounds.{MovesOn, IsLast, Nears, Goes}
 use Rattle.recall_daemon.proofs.Waiting.{put_off_waits_less}
@@ -225,7 +225,7 @@ gives most old asked told k Idle left on lives may = rests most old asked told k
 
 -- ---- the laws
 
-pub each_act_nears : (most : ℕ) (old : Machine) (told : Heard) (act : Act) (new : Machine) → IsAtWork most old → TellsOfFew most told → (Refuses old.asked told → ⊥) → GoesOn old told act new → Nears most old told act new
+pub each_act_nears : (most : ℕ) (old : Machine) (told : Heard) (act : Act) (new : Machine) → IsAtWork most old → TellsOfFew most told → (Refuses old.asked told → ⊥) → StepsOn old told act new → Nears most old told act new
 each_act_nears most old told act new work few lives goes =
     let step = gives most old.known old.asked told _ act (leaves most old.known old.asked told work.settled work.on_event few lives) work.on_event lives goes.may in
     subst (λ (m : Machine). Nears most old told act m) (ap₂ (λ (k : Known) (a : Act). record { known = k; asked = a }) (sym goes.known) (sym goes.asked)) step

@@ -14,7 +14,7 @@ use Rattle.hsm_types.specs.declared.keys.Token.{Token}
 use Rattle.daemon_session.specs.Members.{IsRefusedOne}
 use Rattle.daemon_session.specs.Seats.{Seat, first_id, IsSeated, Refuses}
 use Rattle.recall_daemon.specs.Known.{Known, taken, nothing_known, knows_by, asks_by, ArePutOff, HasAll, MayGive}
-use Rattle.recall_daemon.specs.Machine.{Machine, started, GoesOn}
+use Rattle.recall_daemon.specs.Machine.{Machine, started, StepsOn}
 use Rattle.recall_daemon.specs.Bounds.{IsSettled, IsAtWork, IsOutside, IsComing, IsOnWay, IsSound, TellsOfFew}
 use Rattle.recall_daemon.proofs.Nearing.{clash, each_act_nears}
 
@@ -154,10 +154,10 @@ from_arriving most old asked told k Idle on at may = absurd (no_rest old asked t
 
 -- ---- the laws
 
-sound_by : (most : ℕ) (old new : Machine) (told : Heard) (act : Act) → GoesOn old told act new → Gives most act (knows_by old.known old.asked told) → IsSound most new
+sound_by : (most : ℕ) (old new : Machine) (told : Heard) (act : Act) → StepsOn old told act new → Gives most act (knows_by old.known old.asked told) → IsSound most new
 sound_by most old new told act going sound = subst (λ (m : Machine). IsSound most m) (ap₂ (λ (k : Known) (a : Act). record { known = k; asked = a }) (sym going.known) (sym going.asked)) sound
 
-on_way : (most : ℕ) (old : Machine) (told : Heard) (act : Act) (new : Machine) → IsOnWay old.known old.asked → GoesOn old told act new → IsSound most new
+on_way : (most : ℕ) (old : Machine) (told : Heard) (act : Act) (new : Machine) → IsOnWay old.known old.asked → StepsOn old told act new → IsSound most new
 on_way most old told act new on going = sound_by most old new told act going (⊎_elim
     (λ outside. from_outside most old.asked told _ act outside going.may)
     (λ (arriving : IsArriving old.asked told (knows_by old.known old.asked told)). from_arriving most old.known old.asked told _ act on arriving going.may)
@@ -170,7 +170,7 @@ refused_or_not (Dm sid call) (heard.Dm answer) = inr (λ is. cc)
 refused_or_not (Dm sid call) told = inr (λ is. cc)
 refused_or_not asked told = inr (λ is. is)
 
-at_work : (most : ℕ) (old : Machine) (told : Heard) (act : Act) (new : Machine) → IsAtWork most old → TellsOfFew most told → GoesOn old told act new → IsSound most new
+at_work : (most : ℕ) (old : Machine) (told : Heard) (act : Act) (new : Machine) → IsAtWork most old → TellsOfFew most told → StepsOn old told act new → IsSound most new
 at_work most old told act new work few going = ⊎_elim
     (λ refused. sound_by most old new told act going (rw (going.begins refused) (begins most (knows_by old.known old.asked told) first_id)))
     (λ lives. inl (each_act_nears most old told act new work few lives going).at_work)
@@ -179,7 +179,7 @@ at_work most old told act new work few going = ⊎_elim
 pub starts_sound : (most : ℕ) → IsSound most started
 starts_sound most = inr (record { hand = refl; sid = refl })
 
-pub stays_sound : (most : ℕ) (old : Machine) (told : Heard) (act : Act) (new : Machine) → IsSound most old → TellsOfFew most told → GoesOn old told act new → IsSound most new
+pub stays_sound : (most : ℕ) (old : Machine) (told : Heard) (act : Act) (new : Machine) → IsSound most old → TellsOfFew most told → StepsOn old told act new → IsSound most new
 stays_sound most old told act new sound few going = ⊎_elim (λ work. at_work most old told act new work few going) (λ on. on_way most old told act new on going) sound
 
 unseated : (k : Known) (asked : Act) (sid : Sid) → IsOnWay k asked → IsSeated k.seat sid → ⊥

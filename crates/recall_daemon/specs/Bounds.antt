@@ -13,7 +13,7 @@ use Rattle.daemon_session.specs.declared.events.Event.{Event}
 use Rattle.daemon_session.specs.declared.events.Kept.{Kept}
 use Rattle.daemon_session.specs.Seats.{Seat, IsSeated, Refuses}
 use Rattle.recall_daemon.specs.Known.{Known, Hand, nothing_known, away_in, TellsNothing}
-use Rattle.recall_daemon.specs.Machine.{Machine, GoesOn}
+use Rattle.recall_daemon.specs.Machine.{Machine, StepsOn}
 use Rattle.recall_daemon.specs.declared.away.Away.{Away}
 
 -- ---- the acts that are left
@@ -148,4 +148,4 @@ pub record Nears (most : ℕ) (old : Machine) (told : Heard) (act : Act) (new : 
 -- it gives so many acts behind each other, and moves on by each answer; by none of the acts it asks for events or rests
 abbrev pub Goes : ℕ → ℕ → Machine → Type 0
 Goes most zero m = Unit {0}
-Goes most (suc n) m = (told : Heard) × (act : Act) × (new : Machine) × TellsOfFew most told × MovesOn m.asked told × GoesOn m told act new × (IsLast act → ⊥) × Goes most n new
+Goes most (suc n) m = (told : Heard) × (act : Act) × (new : Machine) × TellsOfFew most told × MovesOn m.asked told × StepsOn m told act new × (IsLast act → ⊥) × Goes most n new

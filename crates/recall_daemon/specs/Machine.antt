@@ -15,7 +15,7 @@ abbrev pub started : Machine
 started = record { known = nothing_known; asked = Idle }
 
 -- It has heard the answer to what it asked, and gives an act that it may give. Where a call is refused for its session it begins as at its start.
-pub record GoesOn (old : Machine) (told : Heard) (act : Act) (new : Machine) : Type 0 where
+pub record StepsOn (old : Machine) (told : Heard) (act : Act) (new : Machine) : Type 0 where
   pub known : new.known ≡ asks_by (knows_by old.known old.asked told) act
   pub asked : new.asked ≡ act
   pub may : MayGive (knows_by old.known old.asked told) old.asked told act

@@ -5,7 +5,7 @@ ghost use Rattle.hsm_types.specs.declared.daemons.Heard.{Heard};
 ghost use Rattle.hsm_types.specs.declared.keys.Sid.{Sid};
 ghost use Rattle.daemon_session.specs.Seats.{IsSeated, Refuses};
 ghost use Rattle.recall_daemon.specs.Bounds.{acts_left, Goes, IsAtWork, IsSound, Nears, TellsOfFew};
-ghost use Rattle.recall_daemon.specs.Machine.{started, Machine, GoesOn};
+ghost use Rattle.recall_daemon.specs.Machine.{started, Machine, StepsOn};
 
 /// It is sound at its start.
 pub fn starts_sound()
@@ -14,7 +14,7 @@ pub fn starts_sound()
 
 /// It stays sound, whatever it hears.
 pub fn stays_sound()
-    ensures { (most : ℕ) (old : Machine) (told : Heard) (act : Act) (new : Machine) → IsSound most old → TellsOfFew most told → GoesOn old told act new → IsSound most new }
+    ensures { (most : ℕ) (old : Machine) (told : Heard) (act : Act) (new : Machine) → IsSound most old → TellsOfFew most told → StepsOn old told act new → IsSound most new }
 {}
 
 /// Where it has a session, it is at work.
@@ -24,7 +24,7 @@ pub fn works_where_seated()
 
 /// Each act on an event leaves fewer to come.
 pub fn each_act_nears()
-    ensures { (most : ℕ) (old : Machine) (told : Heard) (act : Act) (new : Machine) → IsAtWork most old → TellsOfFew most told → (Refuses old.asked told → ⊥) → GoesOn old told act new → Nears most old told act new }
+    ensures { (most : ℕ) (old : Machine) (told : Heard) (act : Act) (new : Machine) → IsAtWork most old → TellsOfFew most told → (Refuses old.asked told → ⊥) → StepsOn old told act new → Nears most old told act new }
 {}
 
 /// No more acts come behind each other than are left.

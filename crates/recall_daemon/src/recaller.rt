@@ -1,6 +1,6 @@
 //! The recall daemon.
 ghost use Rattle.std.specs.Prelude.{◌≡◌, ◌↔◌, IsTrue, IfOk, OnErr};
-ghost use Rattle.recall_daemon.specs.Machine.{started, GoesOn};
+ghost use Rattle.recall_daemon.specs.Machine.{started, StepsOn};
 
 use crate::worker::Worker;
 use hsm_types::{Act, Heard};
@@ -38,7 +38,7 @@ impl Recaller {
     /// What it does next, once it hears the answer to the act that it gave last; of a rest, and at first, `Heard::Nothing`. An error changes nothing, and
     /// the answer is lost. The bytes that it hears of a fetch it moves into the call that restores them. A step looks through the events that it keeps.
     pub fn next(&mut self, last: Heard) -> Result<Act, AllocError>
-        ensures ok { IfOk result (λ act. GoesOn self.old last act self.new) }
+        ensures ok { IfOk result (λ act. StepsOn self.old last act self.new) }
         ensures err { OnErr result (self.new ≡ self.old) }
     {
         self.worker.next(last)

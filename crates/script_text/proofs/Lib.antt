@@ -2,7 +2,7 @@ mod Calling
 mod Cutting
 mod DaemonParts
 mod DataParts
-mod Going
+mod NextLines
 mod Handling
 mod HexText
 mod KindParts

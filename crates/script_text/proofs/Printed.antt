@@ -12,7 +12,7 @@ use Rattle.script_text.specs.Scripts.{texts_of, AreLines, IsScriptOf, IsScript, 
 use Rattle.script_text.specs.Laws.{IsReadAgainOf, IsReadAgain}
 use Rattle.script_text.proofs.Cutting.{texts_of-line}
 use Rattle.script_text.proofs.Speaking.{Lacks-newline}
-use Rattle.script_text.proofs.Going.{one_script, of_allowed}
+use Rattle.script_text.proofs.NextLines.{one_script, of_allowed}
 
 abbrev AreShort : List Line → Type 0
 AreShort lines = AllByRecursion (λ line. length (line_text line) ≤ line_bytes) lines

@@ -19,7 +19,7 @@ use Rattle.script_text.specs.declared.lines.Line.TheVariants.{Event, Start, Kill
 use Rattle.script_text.specs.declared.requests.DmRequest.{DmRequest}
 use Rattle.script_text.specs.declared.requests.Request.{Request}
 use Rattle.script_text.specs.Lines.{data_word, line_words, line_text, IsAskedBy, IsEvent, IsLine}
-use Rattle.script_text.specs.Scripts.{GoesOn}
+use Rattle.script_text.specs.Scripts.{IsNextLine}
 use Rattle.script_text.specs.Reading.{Reads, Lacks, IsNoEvent, caller_word, sid_word, IsSid, request_text, IsRequest, dm_request_text, IsDmRequest, text_by}
 use Rattle.script_text.proofs.Cutting.{Lacks-not, Lacks-join, cut_same}
 use Rattle.script_text.proofs.DaemonParts.{IsVerb, no_other_verb, one_no_event, no_event_lawful, Lacks-no_event, no_event_uncut, no_event_cut}
@@ -225,7 +225,7 @@ line_text-injective x (Event b action t) h k e = absurd (event_no_other b action
 line_text-injective x y h k e = one_no_event x y tt tt e
 
 -- a line that goes on is the one that was read
-pub same_line : (allowed : Allowed) (before : List Line) (text : List ℕ) (read line : Line) → IsLine read → text ≡ line_text read → GoesOn allowed before text line → line ≡ read
+pub same_line : (allowed : Allowed) (before : List Line) (text : List ℕ) (read line : Line) → IsLine read → text ≡ line_text read → IsNextLine allowed before text line → line ≡ read
 same_line allowed before text read line h same g = line_text-injective line read g.lawful h (sym g.spelled ∙ same)
 
 -- ---- a line's text has no newline

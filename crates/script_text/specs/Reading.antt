@@ -30,7 +30,7 @@ use Rattle.script_text.specs.declared.parts.ReadParts.{ReadParts}
 use Rattle.script_text.specs.declared.requests.DmRequest.{DmRequest}
 use Rattle.script_text.specs.declared.requests.Request.{Request}
 use Rattle.script_text.specs.Lines.{coloned, data_word, IsData, IsRegions, IsPart, AreParts}
-use Rattle.script_text.specs.Scripts.{GoesOn}
+use Rattle.script_text.specs.Scripts.{IsNextLine}
 
 -- the lawful value that the text spells, or none where it spells none
 abbrev pub Reads : {A : Type 0} → (A → List ℕ) → (A → Type 0) → List ℕ → Option A → Type 0
@@ -185,5 +185,5 @@ IsNoEvent Settle = Unit {0}
 
 -- the allowed line of the text that goes on after the lines before it, or none where none does
 abbrev pub GoesOnAs : Allowed → List Line → List ℕ → Option Line → Type 0
-GoesOnAs allowed before text None = (line : Line) → ¬ (GoesOn allowed before text line)
-GoesOnAs allowed before text (Some line) = GoesOn allowed before text line
+GoesOnAs allowed before text None = (line : Line) → ¬ (IsNextLine allowed before text line)
+GoesOnAs allowed before text (Some line) = IsNextLine allowed before text line

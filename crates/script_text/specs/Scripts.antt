@@ -20,7 +20,7 @@ abbrev pub texts_of : List ℕ → List (List ℕ)
 texts_of bytes = ended_texts (slice_split (λ b. b == 10) bytes)
 
 -- the text is that of the line, which is allowed and may come after the lines before it
-pub record GoesOn (allowed : Allowed) (before : List Line) (text : List ℕ) (line : Line) : Type 0 where
+pub record IsNextLine (allowed : Allowed) (before : List Line) (text : List ℕ) (line : Line) : Type 0 where
   pub spelled : text ≡ line_text line
   pub lawful : IsLine line
   pub taken : IsAllowed allowed line
@@ -31,7 +31,7 @@ pub record GoesOn (allowed : Allowed) (before : List Line) (text : List ℕ) (li
 -- one by one, the texts are those of the lines
 abbrev pub AreLines : Allowed → List Line → List (List ℕ) → List Line → Type 0
 AreLines allowed before [] [] = Unit {0}
-AreLines allowed before (text ∷ texts) (line ∷ lines) = GoesOn allowed before text line × AreLines allowed (before ++ line ∷ []) texts lines
+AreLines allowed before (text ∷ texts) (line ∷ lines) = IsNextLine allowed before text line × AreLines allowed (before ++ line ∷ []) texts lines
 AreLines allowed before [] (line ∷ lines) = ⊥
 AreLines allowed before (text ∷ texts) [] = ⊥
 
@@ -62,7 +62,7 @@ pub record IsFirstBadOf (allowed : Allowed) (bytes : List ℕ) (n : ℕ) : Type 
   pub rest : List (List ℕ)
   pub split : texts_of bytes ≡ texts ++ text ∷ rest
   pub before : AreLines allowed [] texts lines
-  pub bad : (line : Line) → ¬ (GoesOn allowed lines text line)
+  pub bad : (line : Line) → ¬ (IsNextLine allowed lines text line)
   pub count : n ≡ length texts + 1
 
 -- the same where lines of any kind are allowed

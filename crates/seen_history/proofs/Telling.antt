@@ -48,9 +48,9 @@ use Rattle.plain_model.specs.Step.{World, IsFileOf, MayAnswer, changed_plain, wo
 use Rattle.plain_model.proofs.Alike.{names_alike, live_alike, size_alike, kept_alike}
 use Rattle.plain_model.proofs.Bodies.{length-read}
 use Rattle.plain_model.proofs.Judged.{none_first, passes, second_holds}
-use Rattle.plain_model.proofs.Moving.{writing_sound, seal_sound, restore_sound, punch_sound}
+use Rattle.plain_model.proofs.SegmentChanges.{writing_sound, seal_sound, restore_sound, punch_sound}
 use Rattle.plain_model.proofs.Orders.{owned_open}
-use Rattle.plain_model.proofs.Told.{refused_ledger}
+use Rattle.plain_model.proofs.SessionAnswers.{refused_ledger}
 use Rattle.seen_history.specs.Alike.{blank_action, blank_answer}
 use Rattle.seen_history.specs.Outlines.{FitsSegment, StandsButBytes}
 use Rattle.seen_history.proofs.Fitting.{Fits, fits_size, affected_fits, file_fits}

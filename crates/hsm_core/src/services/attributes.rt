@@ -4,7 +4,7 @@ ghost use Rattle.hsm_types.specs.Messages.{no_token};
 ghost use Rattle.hsm_types.specs.declared.dm.DmCall.TheVariants.{SetDmAttr, GetDmAttr, RemoveDmAttr, GetAllDmAttr};
 ghost use Rattle.hsm_types.specs.Keyed.{find_key};
 ghost use Rattle.file_store.specs.Stores.{Proceeds};
-ghost use Rattle.hsm_core.specs.Services.{AreOf, service_on, IsServed};
+ghost use Rattle.hsm_core.specs.Services.{AreOf, service_on, IsServedByFiles};
 
 use crate::services::replies::{changed, refused, twice};
 use disk_model::Disk;
@@ -26,7 +26,7 @@ pub(crate) fn set<D: Disk>(
     requires live { IsSome (find_key (λ f. f.key) handle.key files.old.held.files) }
     requires idle { Proceeds D.Disk files.old number files.old }
     requires rises { files.old.meta.number ≤ number }
-    ensures { IsServed D.Disk files.old number (SetDmAttr no_token handle name value.now) result files.new }
+    ensures { IsServedByFiles D.Disk files.old number (SetDmAttr no_token handle name value.now) result files.new }
 {
     let value = value.clone()?;
     changed(files.set_attr(alloc, handle.key, name, value, number))
@@ -60,7 +60,7 @@ pub(crate) fn remove<D: Disk>(
     requires live { IsSome (find_key (λ f. f.key) handle.key files.old.held.files) }
     requires idle { Proceeds D.Disk files.old number files.old }
     requires rises { files.old.meta.number ≤ number }
-    ensures { IsServed D.Disk files.old number (RemoveDmAttr no_token handle name) result files.new }
+    ensures { IsServedByFiles D.Disk files.old number (RemoveDmAttr no_token handle name) result files.new }
 {
     changed(files.drop_attr(alloc, handle.key, name, number))
 }

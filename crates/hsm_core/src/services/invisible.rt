@@ -10,7 +10,7 @@ ghost use Rattle.plain_model.specs.Segments.{reading_refusal, writing_refusal};
 ghost use Rattle.plain_model.specs.State.{file_at, bytes_of, used};
 ghost use Rattle.file_store.specs.Stores.{superblock_of, Proceeds};
 ghost use Rattle.dm_service.specs.Services.{Judges};
-ghost use Rattle.hsm_core.specs.Services.{IsServed};
+ghost use Rattle.hsm_core.specs.Services.{IsServedByFiles};
 
 use crate::services::ranges::{judge_access, judge_here, judge_room, judge_within};
 use crate::services::replies::{changed, refused, twice};
@@ -31,7 +31,7 @@ pub(crate) fn read<D: Disk>(
 ) -> Result<(DmReply, DmReply), MetaRefusal>
     requires working { files.old.failed ≡ false }
     requires live { IsSome (find_key (λ f. f.key) handle.key files.old.held.files) }
-    ensures { (n : ℕ) → IsServed D.Disk files.old n (ReadInvis no_token handle offset len) result files.new }
+    ensures { (n : ℕ) → IsServedByFiles D.Disk files.old n (ReadInvis no_token handle offset len) result files.new }
 {
     // Asked for what is true of the disk.
     let _failed = files.has_failed();
@@ -71,7 +71,7 @@ pub(crate) fn write<D: Disk>(
     requires live { IsSome (find_key (λ f. f.key) handle.key files.old.held.files) }
     requires idle { Proceeds D.Disk files.old number files.old }
     requires rises { files.old.meta.number ≤ number }
-    ensures { IsServed D.Disk files.old number (WriteInvis no_token handle offset body.now) result files.new }
+    ensures { IsServedByFiles D.Disk files.old number (WriteInvis no_token handle offset body.now) result files.new }
 {
     let bytes = body.as_slice();
     if let Err(why) = judge_invisible_write(files, handle.key, offset, bytes) {

@@ -14,7 +14,7 @@ ghost use Rattle.plain_model.specs.Services.{kept_of};
 ghost use Rattle.plain_model.specs.State.{file_at, bytes_of, used};
 ghost use Rattle.file_store.specs.Stores.{superblock_of, Proceeds};
 ghost use Rattle.dm_service.specs.Services.{Judges};
-ghost use Rattle.hsm_core.specs.Services.{IsInScope, IsServed, moves_segments, unread_refusals};
+ghost use Rattle.hsm_core.specs.Services.{IsInScope, IsServedByFiles, moves_segments, unread_refusals};
 
 use crate::services::ranges::{judge_print, judge_room, judge_segment, state};
 use crate::services::replies::{changed, refused};
@@ -41,7 +41,7 @@ pub(crate) fn serve<D: Disk>(
     requires rises { files.old.meta.number ≤ number }
     requires moves { moves_segments call.now ≡ true }
     requires within { IsInScope files.old.held.files (scope_of call.now) }
-    ensures { IsServed D.Disk files.old number call.now result files.new }
+    ensures { IsServedByFiles D.Disk files.old number call.now result files.new }
 {
     match call {
         DmCall::PunchHole {
@@ -79,7 +79,7 @@ fn punch<D: Disk>(
     requires live { IsSome (find_key (λ f. f.key) handle.key files.old.held.files) }
     requires idle { Proceeds D.Disk files.old number files.old }
     requires rises { files.old.meta.number ≤ number }
-    ensures { IsServed D.Disk files.old number (PunchHole no_token handle offset len) result files.new }
+    ensures { IsServedByFiles D.Disk files.old number (PunchHole no_token handle offset len) result files.new }
 {
     let size = files.size(handle.key);
     if let Err(why) = judge_punch(files, offset, len, size) {
@@ -152,7 +152,7 @@ fn seal<D: Disk>(
     requires live { IsSome (find_key (λ f. f.key) handle.key files.old.held.files) }
     requires idle { Proceeds D.Disk files.old number files.old }
     requires rises { files.old.meta.number ≤ number }
-    ensures { IsServed D.Disk files.old number (Seal no_token handle segment entry) result files.new }
+    ensures { IsServedByFiles D.Disk files.old number (Seal no_token handle segment entry) result files.new }
 {
     if let Err(why) = judge_seal(files, handle.key, segment, entry) {
         return Ok(refused(why));
@@ -211,7 +211,7 @@ fn restore<D: Disk>(
     requires live { IsSome (find_key (λ f. f.key) handle.key files.old.held.files) }
     requires idle { Proceeds D.Disk files.old number files.old }
     requires rises { files.old.meta.number ≤ number }
-    ensures { IsServed D.Disk files.old number (Restore no_token handle segment bytes.now) result files.new }
+    ensures { IsServedByFiles D.Disk files.old number (Restore no_token handle segment bytes.now) result files.new }
 {
     if let Err(why) = judge_restore(files, handle.key, segment, bytes) {
         return Ok(refused(why));

@@ -4,7 +4,7 @@ ghost use Rattle.hsm_types.specs.Messages.{no_token};
 ghost use Rattle.hsm_types.specs.declared.dm.DmCall.TheVariants.{SetRegion, GetRegion};
 ghost use Rattle.hsm_types.specs.Keyed.{find_key};
 ghost use Rattle.file_store.specs.Stores.{Proceeds};
-ghost use Rattle.hsm_core.specs.Services.{AreOf, service_on, IsServed};
+ghost use Rattle.hsm_core.specs.Services.{AreOf, service_on, IsServedByFiles};
 
 use crate::services::replies::{changed, twice};
 use disk_model::Disk;
@@ -25,7 +25,7 @@ pub(crate) fn set<D: Disk>(
     requires live { IsSome (find_key (λ f. f.key) handle.key files.old.held.files) }
     requires idle { Proceeds D.Disk files.old number files.old }
     requires rises { files.old.meta.number ≤ number }
-    ensures { IsServed D.Disk files.old number (SetRegion no_token handle regions.now) result files.new }
+    ensures { IsServedByFiles D.Disk files.old number (SetRegion no_token handle regions.now) result files.new }
 {
     let regions = regions.clone()?;
     changed(files.set_regions(alloc, handle.key, regions, number))

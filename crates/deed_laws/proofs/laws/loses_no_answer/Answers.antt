@@ -1,4 +1,4 @@
-use Rattle.deed_laws.proofs.Going as law
+use Rattle.deed_laws.proofs.UnknownTokens as law
 use Rattle.deed_laws.proofs.laws.loses_no_answer.Goals as goal
 
 pub returns : goal.returns

@@ -16,7 +16,7 @@ use Rattle.hsm_cli.specs.Endings.{cause_in, WritingEnds}
 use Rattle.hsm_cli.specs.Follows.{SettlesOn}
 use Rattle.hsm_cli.specs.Sealing.{IsRightInMemory}
 use Rattle.hsm_cli.specs.Texts.{drill_text}
-use Rattle.hsm_cli.specs.Told.{sink_told}
+use Rattle.hsm_cli.specs.RunObjects.{sink_told}
 use Rattle.hsm_cli.proofs.ByCause.{if_told}
 use Rattle.hsm_cli.proofs.Drills.{for_memory, no_fault, left_new, tells_left, has_drilled, drills_all, drills_first}
 use Rattle.hsm_cli.proofs.Faults.{caused_new, none_failed}

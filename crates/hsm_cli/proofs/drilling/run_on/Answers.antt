@@ -1,5 +1,5 @@
 use Rattle.std.proofs.Common.{◌≡◌, false}
-use Rattle.hsm_system.specs.Events.{GoesOn}
+use Rattle.hsm_system.specs.Events.{HasGrown}
 use Rattle.hsm_cli.proofs.Daemons.{run_is_well, run_keeps}
 use Rattle.hsm_cli.proofs.Drills.{has_left}
 use Rattle.hsm_cli.proofs.Faults.{IsMade, caused_served, made}
@@ -9,7 +9,7 @@ use Rattle.hsm_cli.proofs.drilling.run_on.Goals.{After-close-disk}
 use Rattle.hsm_cli.proofs.drilling.run_on.Goals as goal
 
 module _ (g : Over) (c : After-close-disk g) where
-  goes_on : GoesOn g.D.Disk c.args.hsm c.close-hsm.result.0
+  goes_on : HasGrown g.D.Disk c.args.hsm c.close-hsm.result.0
   goes_on = rw c.close-hsm.ensures.store (rw c.new-replay.ensures at c.run_all-ended.ensures.goes_on)
 
   served : IsMade c.close-hsm.result.0.history

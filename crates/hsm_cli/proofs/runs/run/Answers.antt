@@ -3,7 +3,7 @@ use Rattle.std.proofs.lemmas.Result.{err_from_is_err_and}
 use Rattle.hsm_replay.proofs.Growing.{have_grown_on}
 use Rattle.hsm_replay.proofs.Joining.{runs_then}
 use Rattle.hsm_cli.proofs.Following.{has_run, has_run_first, first_of_run, committed, committed_all}
-use Rattle.hsm_replay.specs.GoingOn.{MayGoOn}
+use Rattle.hsm_replay.specs.ReadyCallers.{MayGoOn}
 use Rattle.hsm_replay.specs.Running.{commit_line}
 use Rattle.hsm_cli.proofs.Doing.{lines_then, may_same, stopped_run}
 use Rattle.hsm_cli.proofs.runs.run.Goals as goal

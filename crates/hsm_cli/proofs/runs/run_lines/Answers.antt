@@ -1,9 +1,9 @@
 use Rattle.std.proofs.Common.{◌≡◌, ◌∙◌, ◌∷◌, ◌++◌, [], List, refl, sym, ap, subst, rules, append-nil, append_assoc}
 use Rattle.std.proofs.lemmas.Result.{err_from_is_err_and}
-use Rattle.hsm_system.proofs.Going.{goes_itself, goes_then, stopped_then}
+use Rattle.hsm_system.proofs.AfterEvents.{goes_itself, goes_then, stopped_then}
 use Rattle.script_text.specs.declared.lines.Line.{Line}
 use Rattle.hsm_replay.specs.Deeds.{IsDoneBy}
-use Rattle.hsm_replay.specs.GoingOn.{MayGoOn}
+use Rattle.hsm_replay.specs.ReadyCallers.{MayGoOn}
 use Rattle.hsm_replay.proofs.Growing.{have_grown_itself, have_grown_on}
 use Rattle.hsm_cli.specs.Deeds.{AreOfLines}
 use Rattle.hsm_cli.proofs.Doing.{lines_cut, lines_none, lines_on, may_same}

@@ -4,8 +4,8 @@ use Rattle.script_text.specs.declared.lines.Line.{Line}
 use Rattle.script_text.specs.Lines.{IsLine}
 use Rattle.hsm_replay.specs.Deeds.{IsDoneBy}
 use Rattle.hsm_replay.specs.Drives.{HaveGrown}
-use Rattle.hsm_replay.specs.GoingOn.{MayGoOn}
-use Rattle.hsm_system.specs.Events.{GoesOn}
+use Rattle.hsm_replay.specs.ReadyCallers.{MayGoOn}
+use Rattle.hsm_system.specs.Events.{HasGrown}
 use Rattle.hsm_cli.specs.Deeds.{AreOfLines}
 use Rattle.hsm_cli.specs.Follows.{IsRunTo}
 use Rattle.hsm_cli.proofs.runs.run_lines.Given as goal
@@ -14,7 +14,7 @@ abbrev pub invariant-loop-line : goal.invariant-loop-line
 invariant-loop-line g l = record {
   limits : l.replay.system.limits ≡ l.fn.replay.system.limits;
   drives : HaveGrown g.M.Drive l.fn.replay.drives l.replay.drives;
-  goes_on : GoesOn g.D.Disk l.fn.replay.system.store l.replay.system.store;
+  goes_on : HasGrown g.D.Disk l.fn.replay.system.store l.replay.system.store;
   working : l.replay.system.store.files.failed ≡ false;
   done : List Line;
   run : IsRunTo g.M.Drive l.fn.replay done l.replay;

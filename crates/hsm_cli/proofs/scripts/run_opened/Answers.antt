@@ -14,7 +14,7 @@ use Rattle.hsm_cli.proofs.Telling.{told_fault, faultless_unless, fault_caused, r
 use Rattle.hsm_cli.specs.Endings.{cause_in}
 use Rattle.hsm_replay.specs.Running.{IsAllDurable}
 use Rattle.hsm_cli.proofs.Endings.{has_run, before_run}
-use Rattle.hsm_cli.specs.Told.{source_told, sink_told}
+use Rattle.hsm_cli.specs.RunObjects.{source_told, sink_told}
 use Rattle.hsm_cli.specs.Deeds.{AreDone, AreOfScript, HaveGone, MayGoOnOver}
 use Rattle.hsm_cli.proofs.Doing.{done_as, told_done}
 use Rattle.hsm_cli.proofs.scripts.run_opened.Goals as goal

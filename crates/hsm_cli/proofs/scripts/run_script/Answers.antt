@@ -3,7 +3,7 @@ use Rattle.std.proofs.lemmas.Result.{err_from_is_err_and}
 use Rattle.hsm_replay.proofs.Growing.{have_grown_itself}
 use Rattle.hsm_cli.specs.Follows.{SettlesOn, lines_run}
 use Rattle.hsm_cli.specs.Sealing.{TellsOf}
-use Rattle.hsm_cli.specs.Told.{source_told}
+use Rattle.hsm_cli.specs.RunObjects.{source_told}
 use Rattle.hsm_cli.proofs.Scripted.{none_true, none_run, all_run, first_run}
 use Rattle.hsm_cli.specs.Deeds.{AreDone, AreOfScript, HaveGone, MayGoOnOver}
 use Rattle.hsm_cli.proofs.Deeds.{reading_ends}

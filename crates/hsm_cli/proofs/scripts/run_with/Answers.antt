@@ -5,7 +5,7 @@ use Rattle.hsm_cli.specs.declared.causes.Cause.TheVariants.{ScriptRefused, Words
 use Rattle.hsm_cli.specs.declared.causes.Cause.TheVariants.{HostFault, NoMemory}
 use Rattle.hsm_cli.specs.Clauses.{HasRead}
 use Rattle.hsm_cli.specs.Endings.{IsBeforeReading}
-use Rattle.hsm_cli.specs.Told.{source_told}
+use Rattle.hsm_cli.specs.RunObjects.{source_told}
 use Rattle.hsm_cli.proofs.Scripted.{ends_for}
 use Rattle.hsm_cli.specs.Deeds.{AreDone, AreOfScript, MayGoOnOver}
 use Rattle.hsm_cli.proofs.Deeds.{before_reading}

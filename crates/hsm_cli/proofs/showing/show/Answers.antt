@@ -3,7 +3,7 @@ use Rattle.disk_model.specs.Calls.{Rose, RoseByOne}
 use Rattle.hsm_cli.specs.Clauses.{HasFailed}
 use Rattle.hsm_cli.specs.Endings.{cause_in}
 use Rattle.hsm_cli.specs.Texts.{IsShown, AreUntold}
-use Rattle.hsm_cli.specs.Told.{sink_told}
+use Rattle.hsm_cli.specs.RunObjects.{sink_told}
 use Rattle.hsm_cli.proofs.Quiet.{unhanded_quiet, asked_once}
 use Rattle.hsm_cli.proofs.Running.{failed_since}
 use Rattle.hsm_cli.proofs.Showings.{takes_as, shown_of, ends_as, only_read}

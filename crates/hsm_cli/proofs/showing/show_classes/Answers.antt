@@ -5,7 +5,7 @@ use Rattle.store_summary.specs.Shown.{ShowsText}
 use Rattle.store_summary.specs.declared.summaries.ClassCounts.{ClassCounts}
 use Rattle.hsm_cli.specs.Endings.{cause_in}
 use Rattle.hsm_cli.specs.Texts.{ShowsStore, shown_volumes, AreCounted, GivesVolume}
-use Rattle.hsm_cli.specs.Told.{sink_told}
+use Rattle.hsm_cli.specs.RunObjects.{sink_told}
 use Rattle.hsm_cli.proofs.Quiet.{uncounted_quiet}
 use Rattle.hsm_cli.proofs.Showings.{takes_as, ends_uncounted, counting_written}
 use Rattle.hsm_cli.proofs.showing.show_classes.Goals as goal

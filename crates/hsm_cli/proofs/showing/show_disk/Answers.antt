@@ -2,7 +2,7 @@ use Rattle.std.proofs.Common.{None, Err, refl, ap}
 use Rattle.std.proofs.lemmas.Result.{err_from_is_err_and}
 use Rattle.hsm_cli.specs.Endings.{cause_in}
 use Rattle.hsm_cli.specs.Texts.{IsShown, AreUntold}
-use Rattle.hsm_cli.specs.Told.{sink_told}
+use Rattle.hsm_cli.specs.RunObjects.{sink_told}
 use Rattle.hsm_cli.proofs.Showings.{takes_as, ends_unread, unread_quiet}
 use Rattle.hsm_cli.proofs.showing.show_disk.Goals as goal
 

@@ -7,7 +7,7 @@ use Rattle.hsm_cli.specs.Clauses.{HasFailed, HasDriveFailed, AreShown}
 use Rattle.hsm_cli.specs.Endings.{cause_in, CountingEnds}
 use Rattle.hosts.specs.Hosts.{AreHanded}
 use Rattle.hsm_cli.specs.Texts.{ShowsStore, IsShown, shown_volumes, AreCounted, GivesVolume}
-use Rattle.hsm_cli.specs.Told.{SinkTold, sink_told}
+use Rattle.hsm_cli.specs.RunObjects.{SinkTold, sink_told}
 use Rattle.hsm_cli.proofs.Drives.{rose_once, handed_since, disk_came, stayed, all_came}
 use Rattle.hsm_cli.proofs.Quiet.{unhanded_quiet, never_yet, failed_once, once_since, asked_once}
 use Rattle.hsm_cli.proofs.Running.{failed_since}

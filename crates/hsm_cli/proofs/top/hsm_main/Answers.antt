@@ -4,7 +4,7 @@ use Rattle.std.specs.String.{string_bytes}
 use Rattle.command_words.specs.Commands.{Form, form_in, form_of}
 use Rattle.command_words.specs.declared.commands.Command.{Command}
 use Rattle.hsm_cli.specs.Clauses.{KeepsPromises}
-use Rattle.hsm_cli.specs.Told.{source_told, sink_told}
+use Rattle.hsm_cli.specs.RunObjects.{source_told, sink_told}
 use Rattle.hsm_cli.proofs.Wanting.{refused_keeps, wanting_keeps}
 use Rattle.hsm_cli.proofs.top.hsm_main.Goals as goal
 

@@ -9,7 +9,7 @@ use Rattle.hsm_cli.specs.Clauses.{HasRun}
 use Rattle.hsm_cli.specs.Deeds.{AreDone, AreOfScript, DrivesInMemory, MayGoOnOver}
 use Rattle.hsm_cli.specs.Follows.{SettlesOn}
 use Rattle.hsm_cli.specs.Sealing.{IsRightInMemory}
-use Rattle.hsm_cli.specs.Told.{source_told, sink_told}
+use Rattle.hsm_cli.specs.RunObjects.{source_told, sink_told}
 use Rattle.hsm_cli.proofs.Faults.{caused_none, caused_new, none_failed}
 use Rattle.hsm_cli.proofs.Legality.{good_new, good_unopened, packed_new}
 use Rattle.hsm_cli.proofs.Running.{never_rose, no_host, ends_in_memory}

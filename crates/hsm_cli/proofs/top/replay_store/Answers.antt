@@ -8,7 +8,7 @@ use Rattle.hsm_cli.specs.Deeds.{AreOfScript, DrivesWent}
 use Rattle.hsm_cli.specs.Follows.{SettlesOn}
 use Rattle.hsm_cli.specs.Outcomes.{ended_with}
 use Rattle.hsm_cli.specs.Sealing.{TellsOf, IsRightInFolder}
-use Rattle.hsm_cli.specs.Told.{source_told, sink_told, host_told}
+use Rattle.hsm_cli.specs.RunObjects.{source_told, sink_told, host_told}
 use Rattle.hsm_cli.proofs.Crashes.{crash_safe, why_unopened, why_unhanded, back_unhanded, words_unhanded, begun_unhanded, words_unopened, begun_unopened}
 use Rattle.hsm_cli.proofs.Running.{failed_since, served_words, served_begun}
 use Rattle.hsm_cli.proofs.Legality.{good_but_bytes, good_unopened, legal_as}

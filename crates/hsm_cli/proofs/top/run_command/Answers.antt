@@ -3,7 +3,7 @@ use Rattle.std.specs.Prelude.{Option}
 use Rattle.command_words.specs.Commands.{Form, form_in}
 use Rattle.command_words.specs.declared.commands.Command.{Command}
 use Rattle.hsm_cli.specs.Clauses.{KeepsPromises}
-use Rattle.hsm_cli.specs.Told.{source_told, sink_told}
+use Rattle.hsm_cli.specs.RunObjects.{source_told, sink_told}
 use Rattle.hsm_cli.proofs.Promises.{format_keeps, replay_keeps, store_keeps, show_keeps, volumes_keep, drill_keeps}
 use Rattle.hsm_cli.proofs.top.run_command.Goals as goal
 

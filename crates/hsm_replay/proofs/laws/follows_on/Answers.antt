@@ -1,4 +1,4 @@
-use Rattle.hsm_replay.specs.GoingOn.{MayGoOn}
+use Rattle.hsm_replay.specs.ReadyCallers.{MayGoOn}
 use Rattle.hsm_replay.proofs.PartsDone as law
 use Rattle.hsm_replay.proofs.laws.follows_on.Goals as goal
 

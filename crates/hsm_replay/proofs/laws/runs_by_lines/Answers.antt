@@ -1,4 +1,4 @@
-use Rattle.hsm_replay.specs.GoingOn.{MayGoOn}
+use Rattle.hsm_replay.specs.ReadyCallers.{MayGoOn}
 use Rattle.hsm_replay.proofs.PartsRun as law
 use Rattle.hsm_replay.proofs.laws.runs_by_lines.Goals as goal
 

@@ -1,6 +1,6 @@
 use Rattle.std.proofs.Common.{◌∙◌, ap}
 use Rattle.hsm_system.specs.declared.daemons.Next.TheVariants.{Waits}
-use Rattle.hsm_system.proofs.Moving.{none_given, act_given}
+use Rattle.hsm_system.proofs.DaemonActs.{none_given, act_given}
 use Rattle.hsm_system.proofs.daemons.ask.Goals as goal
 
 pub returns-in_default-take-clause-asked : goal.returns-in_default-take-clause-asked

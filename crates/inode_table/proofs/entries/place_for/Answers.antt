@@ -1,7 +1,7 @@
 use Rattle.std.proofs.Common.{ltb, rules}
 use Rattle.std.proofs.lemmas.List.Sorted.{IsPartitionPoint-from_clause}
 use Rattle.inode_table.proofs.Orders.{partitioned}
-use Rattle.inode_table.proofs.Standing.{cuts-point}
+use Rattle.inode_table.proofs.PlacesOfFiles.{cuts-point}
 use Rattle.inode_table.proofs.entries.place_for.Goals as goal
 
 pub returns-clause-place : goal.returns-clause-place

@@ -1,5 +1,5 @@
 use Rattle.std.proofs.Common.{sym, ◌∙◌, [], arith}
-use Rattle.inode_table.proofs.Standing.{cuts-stands, cuts-absent}
+use Rattle.inode_table.proofs.PlacesOfFiles.{cuts-stands, cuts-absent}
 use Rattle.inode_table.proofs.entries.place_of.Goals as goal
 use Rattle.inode_table.proofs.entries.place_of.Goals.{else-place-entries-via-then-place-entries+else-eq, else-place-entries-via-else-place-entries}
 

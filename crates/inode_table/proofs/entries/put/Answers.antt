@@ -1,5 +1,5 @@
 use Rattle.std.proofs.Common.{◌∙◌}
-use Rattle.inode_table.proofs.Standing.{cuts-put}
+use Rattle.inode_table.proofs.PlacesOfFiles.{cuts-put}
 use Rattle.inode_table.proofs.entries.put.Goals as goal
 
 pub returns : goal.returns

@@ -1,6 +1,6 @@
 use Rattle.std.proofs.Common.{◌∙◌, ap, set}
 use Rattle.inode_table.specs.declared.entries.FileEntry.{FileEntry}
-use Rattle.inode_table.proofs.Standing.{stands-changed}
+use Rattle.inode_table.proofs.PlacesOfFiles.{stands-changed}
 use Rattle.inode_table.proofs.entries.set_size.Goals as goal
 
 pub returns : goal.returns

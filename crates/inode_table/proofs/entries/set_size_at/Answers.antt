@@ -1,7 +1,7 @@
 use Rattle.std.proofs.Common.{◌∙◌, ap, set, arith}
 use Rattle.inode_table.specs.declared.entries.FileEntry.{FileEntry}
 use Rattle.inode_table.proofs.KeysAt.{there, keyed-stands}
-use Rattle.inode_table.proofs.Standing.{stands-changed}
+use Rattle.inode_table.proofs.PlacesOfFiles.{stands-changed}
 use Rattle.inode_table.proofs.entries.set_size_at.Goals as goal
 
 pub index_mut-requires : goal.index_mut-requires

@@ -1,7 +1,7 @@
 use Rattle.std.proofs.Common.{Option, sym, ap}
 use Rattle.std.specs.Option.{option_map}
 use Rattle.inode_table.specs.declared.entries.FileEntry.{FileEntry}
-use Rattle.inode_table.proofs.Standing.{stands-found}
+use Rattle.inode_table.proofs.PlacesOfFiles.{stands-found}
 use Rattle.inode_table.proofs.entries.size.Goals as goal
 
 pub returns-in-Some : goal.returns-in-Some

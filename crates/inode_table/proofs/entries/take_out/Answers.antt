@@ -1,7 +1,7 @@
 use Rattle.std.proofs.Common.{Some, sym, ◌∙◌, ap}
 use Rattle.inode_table.specs.declared.entries.FileEntry.{FileEntry}
 use Rattle.inode_table.proofs.Listings.{drop-absent}
-use Rattle.inode_table.proofs.Standing.{stands-found, stands-dropped}
+use Rattle.inode_table.proofs.PlacesOfFiles.{stands-found, stands-dropped}
 use Rattle.inode_table.proofs.entries.take_out.Goals as goal
 
 pub returns-in-Some-clause-taken : goal.returns-in-Some-clause-taken

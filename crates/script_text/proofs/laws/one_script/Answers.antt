@@ -1,5 +1,5 @@
 use Rattle.script_text.specs.declared.lines.Allowed.TheVariants.{All}
-use Rattle.script_text.proofs.Going as law
+use Rattle.script_text.proofs.NextLines as law
 use Rattle.script_text.proofs.laws.one_script.Goals as goal
 
 pub returns-clause-script : goal.returns-clause-script

@@ -1,4 +1,4 @@
-use Rattle.script_text.proofs.Going as law
+use Rattle.script_text.proofs.NextLines as law
 use Rattle.script_text.proofs.laws.one_script_of.Goals as goal
 
 pub returns-clause-script : goal.returns-clause-script

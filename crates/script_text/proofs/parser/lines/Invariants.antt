@@ -2,7 +2,7 @@ use Rattle.std.proofs.Common.{◌≡◌, ◌≤◌, length}
 use Rattle.std.specs.Prelude.{sum_by}
 use Rattle.script_text.specs.Limits.{script_access_bytes}
 use Rattle.script_text.specs.Lines.{access_length}
-use Rattle.script_text.proofs.Going.{IsReached}
+use Rattle.script_text.proofs.NextLines.{IsReached}
 use Rattle.script_text.proofs.parser.lines.Given as goal
 
 abbrev pub invariant-loop-rest : goal.invariant-loop-rest

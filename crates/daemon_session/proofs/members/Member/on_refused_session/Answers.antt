@@ -1,6 +1,6 @@
 use Rattle.std.proofs.Common.{ap}
 use Rattle.daemon_session.specs.declared.entering.Entering.TheVariants.{Outside}
-use Rattle.daemon_session.specs.Going.{member_in}
+use Rattle.daemon_session.specs.SessionSteps.{member_in}
 use Rattle.daemon_session.specs.Members.{Membership}
 use Rattle.daemon_session.proofs.WaySteps.{refused}
 use Rattle.daemon_session.proofs.members.Member.on_refused_session.Goals as goal

@@ -1,6 +1,6 @@
 use Rattle.std.proofs.Common.{◌≡◌, ◌+◌, ◌≤◌, true, IfOk, refl, subst}
 use Rattle.dm_service.specs.Tables.{Tables, awaited_in, AreKept}
-use Rattle.dm_service.specs.Services.{asks_sessions, entries_for, IsServed}
+use Rattle.dm_service.specs.Services.{asks_sessions, entries_for, IsServedByTables}
 use Rattle.dm_service.specs.Handing.{HandsOut}
 use Rattle.dm_service.proofs.HandedOut.{nothing_packed}
 use Rattle.dm_service.proofs.Served.{served_by, responded_room, own_room, not_due, others}
@@ -16,7 +16,7 @@ after c = record { sessions = c.serve.new.sessions; tokens = c.self.inside.token
 asks : (c : After-serve) → asks_sessions c.args.call.now ≡ true
 asks c = others c.args.call.now c.requires c.in_default.not-Respond c.in_default.not-CreateUserEvent
 
-left : (c : After-serve) → IsServed (before c) c.args.sid c.args.call.now c.serve.result (after c) × AreKept (after c) c.self.inside.open_tokens × (awaited_in (after c) ≡ awaited_in (before c))
+left : (c : After-serve) → IsServedByTables (before c) c.args.sid c.args.call.now c.serve.result (after c) × AreKept (after c) c.self.inside.open_tokens × (awaited_in (after c) ≡ awaited_in (before c))
 left c = served_by (before c) (after c) c.self.inside.open_tokens c.self.invariant c.args.sid c.args.call.now (asks c) refl refl refl c.serve.result c.serve.ensures.told
 
 pub invariant_of-self : goal.invariant_of-self
@@ -35,7 +35,7 @@ returns-in-Respond-clause-room c =
 
 pub returns-in_default : goal.returns-in_default
 returns-in_default c = record {
-  served = subst (λ (t : Tables). IsServed t c.args.sid c.args.call.now c.serve.result (after c)) c.self.view_is (left c).0;
+  served = subst (λ (t : Tables). IsServedByTables t c.args.sid c.args.call.now c.serve.result (after c)) c.self.view_is (left c).0;
   packed = subst (λ (t : Tables). IfOk c.serve.result (λ r. HandsOut t.sessions c.args.sid c.args.call.now r.0)) c.self.view_is c.serve.ensures.packed;
   responds = λ due. absurd (not_due c.args.self.now.sessions c.args.sid c.args.call.now (asks c) due);
   room = subst (λ (t : Tables). awaited_in (after c) + 1 ≤ awaited_in t + entries_for t.sessions c.args.sid c.args.call.now) c.self.view_is

@@ -7,7 +7,7 @@ use Rattle.hsm_types.specs.declared.dm.DmReply.TheVariants as reply
 use Rattle.plain_model.specs.State.{noted}
 use Rattle.plain_model.specs.Services.{dm_judged, dm_state_where}
 use Rattle.dm_service.specs.Tables.{Tables, awaited_in, seen, AreKept, is_open}
-use Rattle.dm_service.specs.Services.{any_superblock, IsServed}
+use Rattle.dm_service.specs.Services.{any_superblock, IsServedByTables}
 use Rattle.dm_service.proofs.Awaiting.{few_open}
 use Rattle.dm_service.proofs.Served.{made_by, event_served}
 use Rattle.dm_service.proofs.service.DmService.make_event.Goals.{In-Ok}
@@ -39,7 +39,7 @@ invariant_of-self c = (left (goal.at.invariant_of-self c).In-Ok).1
 pub returns-in-Ok-clause-served : goal.returns-in-Ok-clause-served
 returns-in-Ok-clause-served c =
     let at = (goal.at.returns-in-Ok-clause-served c).In-Ok in
-    subst (λ (t : Tables). IsServed {E = AllocError} t c.args.sid (CreateUserEvent c.args.body.now) (Ok (reply.Token c.in_ok-token.token, reply.Token c.in_ok-token.token)) (after at)) c.self.view_is
+    subst (λ (t : Tables). IsServedByTables {E = AllocError} t c.args.sid (CreateUserEvent c.args.body.now) (Ok (reply.Token c.in_ok-token.token, reply.Token c.in_ok-token.token)) (after at)) c.self.view_is
     (event_served (before at) (after at) c.args.sid c.args.body.now c.in_ok-token.token c.in_ok-token.ensures.next (none at) (left at).0)
 
 pub returns-in-Ok-clause-room : goal.returns-in-Ok-clause-room

@@ -1,6 +1,6 @@
 use Rattle.std.proofs.Common.{refl, sym}
 use Rattle.plain_model.specs.State.{file_at}
-use Rattle.plain_model.proofs.Moving.{writing_sound}
+use Rattle.plain_model.proofs.SegmentChanges.{writing_sound}
 use Rattle.file_store.specs.Stores.{superblock_of}
 use Rattle.hsm_core.proofs.Moved.{change_served, refused_served}
 use Rattle.hsm_core.proofs.services.invisible.write.Goals as goal

@@ -8,7 +8,7 @@ use Rattle.meta_store.specs.Meta.{Meta}
 use Rattle.dm_service.specs.Services.{AreBoth}
 use Rattle.file_store.specs.Stores.{Shows}
 use Rattle.hsm_core.specs.Services.{IsMadeOf}
-use Rattle.hsm_core.proofs.Told.{made_of_parts}
+use Rattle.hsm_core.proofs.ToldSegments.{made_of_parts}
 use Rattle.hsm_core.proofs.services.segments.allocated.Goals as goal
 
 pub returns : goal.returns

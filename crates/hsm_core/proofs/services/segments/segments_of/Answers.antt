@@ -1,5 +1,5 @@
 use Rattle.std.proofs.Common.{◌++◌, [], ◌∷◌, sym, ◌∙◌}
-use Rattle.hsm_core.proofs.Told.{told_at, next_told}
+use Rattle.hsm_core.proofs.ToldSegments.{told_at, next_told}
 use Rattle.hsm_core.proofs.services.segments.segments_of.Goals as goal
 
 pub loop-segment-preserved : goal.loop-segment-preserved

@@ -1,6 +1,6 @@
 use Rattle.std.proofs.Common.{◌≡◌, map}
 use Rattle.hsm_types.specs.Segments.{from_on}
-use Rattle.hsm_core.proofs.Told.{told_at}
+use Rattle.hsm_core.proofs.ToldSegments.{told_at}
 use Rattle.hsm_core.proofs.services.segments.segments_of.Given as goal
 
 abbrev pub invariant-loop-segment : goal.invariant-loop-segment

@@ -8,7 +8,7 @@ use Rattle.snapshot_text.specs.Parts.{file_of}
 use Rattle.meta_store.proofs.SnapshotFits.{size-few}
 use Rattle.file_store.proofs.Loaded.{next-file}
 use Rattle.hsm_core.specs.Stamps.{stamp_in}
-use Rattle.hsm_core.proofs.Told.{made_of_row, row_at, row_more, row_same}
+use Rattle.hsm_core.proofs.ToldSegments.{made_of_row, row_at, row_more, row_same}
 use Rattle.hsm_core.proofs.services.tables.rows.Goals as goal
 
 pub segments_of-requires : goal.segments_of-requires

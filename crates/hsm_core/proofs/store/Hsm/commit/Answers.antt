@@ -8,7 +8,7 @@ use Rattle.std.specs.Prelude.{vec_len, vec_capacity}
 use Rattle.dm_service.specs.Tables.{awaited_in}
 use Rattle.hsm_core.specs.Store.{Store, KeepsRoom, state_with}
 use Rattle.hsm_core.specs.Answers.{IsCommitted}
-use Rattle.hsm_core.proofs.Events.{event, always, whenever, not_begun, one_more, IsNext, Keeps}
+use Rattle.hsm_core.proofs.Events.{event, always, whenever, not_begun, one_more, IsNext, IsTakenDown}
 use Rattle.hsm_core.proofs.Packing.{still_packed}
 use Rattle.hsm_core.proofs.Safety.{rises_now}
 use Rattle.hsm_core.proofs.Seeing.{held_replies}
@@ -23,7 +23,7 @@ before g c = record { opened = c.self.inside.opened.value; files = c.self.inside
 abbrev after : (g : Over) → After-record_event g → Store g.row.D.Denot
 after g c = record { opened = c.self.inside.opened.value; files = c.commit-done.new.files; stamps = c.self.inside.stamps.entries; tables = c.self.inside.service; history = c.record_event.new.history.items; spare = vec_capacity c.record_event.new.history - (vec_len c.record_event.new.history + awaited_in c.self.inside.service) }
 
-keeps : (g : Over) (c : After-record_event g) → Keeps c.make_ready.new.history.items TheStore Commit (λ (r : Reply). Replied r) c.commit-done.result c.record_event.result c.record_event.new.history.items
+keeps : (g : Over) (c : After-record_event g) → IsTakenDown c.make_ready.new.history.items TheStore Commit (λ (r : Reply). Replied r) c.commit-done.result c.record_event.result c.record_event.new.history.items
 keeps g c = record {
   kept = c.record_event.ensures.recorded;
   memory = λ lacks. (ap (λ (r : Reply). Replied r) (c.record_event.ensures.memory lacks).0, (c.record_event.ensures.memory lacks).1);

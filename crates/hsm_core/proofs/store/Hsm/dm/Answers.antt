@@ -17,7 +17,7 @@ use Rattle.file_store.specs.Stores.{superblock_of}
 use Rattle.hsm_core.specs.Answers.{own_answer, IsTold}
 use Rattle.hsm_core.proofs.Alike.{told_alike}
 use Rattle.hsm_core.proofs.HandedOut.{told_handed, unserved_handed}
-use Rattle.hsm_core.proofs.Events.{event, always, lasting, room_served, told_done, not_begun, one_more, IsNext, Keeps}
+use Rattle.hsm_core.proofs.Events.{event, always, lasting, room_served, told_done, not_begun, one_more, IsNext, IsTakenDown}
 use Rattle.hsm_core.proofs.Packing.{still_packed}
 use Rattle.hsm_core.proofs.Safety.{rises_now}
 use Rattle.hsm_core.proofs.store.Hsm.dm.Given.{Over}
@@ -31,7 +31,7 @@ before g c = record { opened = c.self.inside.opened.value; files = c.self.inside
 abbrev after : (g : Over) → After-record_dm g → Store g.row.D.Denot
 after g c = record { opened = c.self.inside.opened.value; files = c.serve-done.new.files; stamps = c.self.inside.stamps.entries; tables = c.serve-done.new.service; history = c.record_dm.new.history.items; spare = vec_capacity c.record_dm.new.history - (vec_len c.record_dm.new.history + awaited_in c.serve-done.new.service) }
 
-keeps : (g : Over) (c : After-record_dm g) → Keeps c.make_ready.new.history.items (Session c.args.sid) (Dm c.args.call) (λ (r : DmReply). Told r) c.serve-done.result c.record_dm.result c.record_dm.new.history.items
+keeps : (g : Over) (c : After-record_dm g) → IsTakenDown c.make_ready.new.history.items (Session c.args.sid) (Dm c.args.call) (λ (r : DmReply). Told r) c.serve-done.result c.record_dm.result c.record_dm.new.history.items
 keeps g c = record {
   kept = c.record_dm.ensures.recorded;
   memory = λ lacks. (ap (λ (r : DmReply). Told r) (c.record_dm.ensures.memory lacks).0, (c.record_dm.ensures.memory lacks).1);

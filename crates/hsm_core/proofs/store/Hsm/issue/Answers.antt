@@ -10,7 +10,7 @@ use Rattle.std.specs.Prelude.{vec_len, vec_capacity}
 use Rattle.dm_service.specs.Tables.{awaited_in}
 use Rattle.hsm_core.specs.Store.{Store, KeepsRoom}
 use Rattle.hsm_core.specs.Answers.{IsAnswered}
-use Rattle.hsm_core.proofs.Events.{event, lasting, room_after, not_begun, one_more, IsNext, Keeps}
+use Rattle.hsm_core.proofs.Events.{event, lasting, room_after, not_begun, one_more, IsNext, IsTakenDown}
 use Rattle.hsm_core.proofs.Packing.{still_packed}
 use Rattle.hsm_core.proofs.Safety.{rises_now}
 use Rattle.hsm_core.proofs.Runs.{formatted_as}
@@ -25,7 +25,7 @@ before g c = record { opened = c.self.inside.opened.value; files = c.self.inside
 abbrev after : (g : Over) → After-record_event g → Store g.row.D.Denot
 after g c = record { opened = c.self.inside.opened.value; files = c.answer-done.new.files; stamps = c.answer-done.new.stamps.entries; tables = c.answer-done.new.service; history = c.record_event.new.history.items; spare = vec_capacity c.record_event.new.history - (vec_len c.record_event.new.history + awaited_in c.answer-done.new.service) }
 
-keeps : (g : Over) (c : After-record_event g) → Keeps c.make_ready_for_access.new.history.items (Caller c.args.caller) (Issue c.issued-access.result.call) (λ (r : Reply). Replied r) c.answer-done.result c.record_event.result c.record_event.new.history.items
+keeps : (g : Over) (c : After-record_event g) → IsTakenDown c.make_ready_for_access.new.history.items (Caller c.args.caller) (Issue c.issued-access.result.call) (λ (r : Reply). Replied r) c.answer-done.result c.record_event.result c.record_event.new.history.items
 keeps g c = record {
   kept = c.record_event.ensures.recorded;
   memory = λ lacks. (ap (λ (r : Reply). Replied r) (c.record_event.ensures.memory lacks).0, (c.record_event.ensures.memory lacks).1);

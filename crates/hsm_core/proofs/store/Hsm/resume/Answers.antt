@@ -12,7 +12,7 @@ use Rattle.file_store.specs.Stores.{superblock_of}
 use Rattle.hsm_core.specs.Store.{Store, KeepsRoom}
 use Rattle.hsm_core.specs.Targets.{EachLasts}
 use Rattle.hsm_core.specs.Answers.{IsResumed}
-use Rattle.hsm_core.proofs.Events.{event, always, lasting, room_again, not_begun, one_more, IsNext, Keeps}
+use Rattle.hsm_core.proofs.Events.{event, always, lasting, room_again, not_begun, one_more, IsNext, IsTakenDown}
 use Rattle.hsm_core.proofs.Packing.{still_packed}
 use Rattle.hsm_core.proofs.Safety.{rises_now}
 use Rattle.hsm_core.proofs.Runs.{formatted_as}
@@ -27,7 +27,7 @@ before g c = record { opened = c.self.inside.opened.value; files = c.self.inside
 abbrev after : (g : Over) → After-record_event g → Store g.row.D.Denot
 after g c = record { opened = c.self.inside.opened.value; files = c.answer_again-done.new.files; stamps = c.answer_again-done.new.stamps.entries; tables = c.answer_again-done.new.service; history = c.record_event.new.history.items; spare = vec_capacity c.record_event.new.history - (vec_len c.record_event.new.history + awaited_in c.answer_again-done.new.service) }
 
-keeps : (g : Over) (c : After-record_event g) → Keeps c.make_ready_to_resume.new.history.items (Caller c.args.caller) Resume (λ (r : Reply). Replied r) c.answer_again-done.result c.record_event.result c.record_event.new.history.items
+keeps : (g : Over) (c : After-record_event g) → IsTakenDown c.make_ready_to_resume.new.history.items (Caller c.args.caller) Resume (λ (r : Reply). Replied r) c.answer_again-done.result c.record_event.result c.record_event.new.history.items
 keeps g c = record {
   kept = c.record_event.ensures.recorded;
   memory = λ lacks. (ap (λ (r : Reply). Replied r) (c.record_event.ensures.memory lacks).0, (c.record_event.ensures.memory lacks).1);

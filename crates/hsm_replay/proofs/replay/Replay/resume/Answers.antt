@@ -11,10 +11,10 @@ use Rattle.hsm_replay.proofs.Events.{event_leaves, event_moves, resumed_on}
 use Rattle.hsm_replay.proofs.Joining.{resume_is_settling, moves_itself}
 use Rattle.hsm_replay.proofs.WhichRun.{event_runs}
 use Rattle.hsm_replay.specs.Deeds.{ByDeeds, IsResumeCut, MayResumeBy}
-use Rattle.hsm_replay.specs.GoingOn.{MayGoOn}
+use Rattle.hsm_replay.specs.ReadyCallers.{MayGoOn}
 use Rattle.hsm_replay.proofs.Deeds.{done_none}
 use Rattle.hsm_replay.proofs.DeedRounds.{event_by_deeds, resume_by_deeds}
-use Rattle.hsm_replay.proofs.GoingOn.{ready_goes}
+use Rattle.hsm_replay.proofs.ReadyCallers.{ready_goes}
 use Rattle.hsm_replay.proofs.replay.Replay.resume.Goals as goal
 
 pub returns-clause-moves : goal.returns-clause-moves

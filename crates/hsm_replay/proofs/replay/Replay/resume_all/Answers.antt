@@ -1,7 +1,7 @@
 use Rattle.std.proofs.Common.{◌≡◌, ◌∙◌, ◌+◌, Ok, Err, refl, rules}
 use Rattle.std.proofs.lemmas.Result.{err_from_is_err_and}
 use Rattle.hsm_types.specs.Limits.{callers}
-use Rattle.hsm_replay.specs.GoingOn.{MayGoOn}
+use Rattle.hsm_replay.specs.ReadyCallers.{MayGoOn}
 use Rattle.hsm_replay.proofs.Joining.{moves_itself, moves_then}
 use Rattle.hsm_replay.proofs.Rounds.{resumed_none, resumed_on, resumed_all}
 use Rattle.hsm_replay.proofs.DeedRounds.{resumed_none_by, resumed_on_by, resumed_all_by, resumed_stopped}

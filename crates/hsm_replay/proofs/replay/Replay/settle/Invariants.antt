@@ -4,7 +4,7 @@ use Rattle.marked_history.specs.Follows.{IsOfSettling}
 use Rattle.marked_history.specs.Quiet.{is_quiet}
 use Rattle.hsm_replay.specs.Deeds.{IsDoneBy}
 use Rattle.hsm_replay.specs.Freshness.{StaysFresh}
-use Rattle.hsm_replay.specs.GoingOn.{MayGoOn}
+use Rattle.hsm_replay.specs.ReadyCallers.{MayGoOn}
 use Rattle.hsm_replay.specs.Keeping.{Moves}
 use Rattle.hsm_replay.specs.Systems.{running, refreshed}
 use Rattle.hsm_replay.proofs.PartsOn.{RoundsTo}

@@ -1,5 +1,5 @@
 use Rattle.hsm_system.proofs.Keeping.{heard_within, recall_asks, migrate_asks}
-use Rattle.hsm_system.proofs.Moving.{recall_asked, recall_lacks, migrate_asked, migrate_lacks}
+use Rattle.hsm_system.proofs.DaemonActs.{recall_asked, recall_lacks, migrate_asked, migrate_lacks}
 use Rattle.hsm_system.proofs.system.System.next.Goals as goal
 
 pub ask-requires : goal.ask-requires

@@ -6,19 +6,19 @@ use Rattle.script_text.specs.declared.lines.Allowed.{Allowed}
 use Rattle.script_text.specs.declared.lines.Allowed.TheVariants.{All}
 use Rattle.script_text.specs.declared.lines.Line.{Line}
 use Rattle.script_text.specs.Lines.{IsAllowed}
-use Rattle.script_text.specs.Scripts.{texts_of, GoesOn, AreLines, IsScriptOf}
+use Rattle.script_text.specs.Scripts.{texts_of, IsNextLine, AreLines, IsScriptOf}
 use Rattle.script_text.specs.Laws.{IsOneScriptOf, FirstBadIsOneOf, IsOfAllowed}
 use Rattle.script_text.proofs.Speaking.{line_text-injective}
 
 module _ (allowed : Allowed) where
   abbrev GoesOnNone : List Line → List ℕ → Type 0
-  GoesOnNone before text = (line : Line) → ¬ (GoesOn allowed before text line)
+  GoesOnNone before text = (line : Line) → ¬ (IsNextLine allowed before text line)
 
-  goes_on_along : (a b : List Line) (text : List ℕ) (line : Line) → a ≡ b → GoesOn allowed a text line → GoesOn allowed b text line
-  goes_on_along a b text line e g = let P : List Line → Type 0 = λ before. GoesOn allowed before text line in subst P e g
+  goes_on_along : (a b : List Line) (text : List ℕ) (line : Line) → a ≡ b → IsNextLine allowed a text line → IsNextLine allowed b text line
+  goes_on_along a b text line e g = let P : List Line → Type 0 = λ before. IsNextLine allowed before text line in subst P e g
 
   -- one text is that of one line
-  one_line : (before others : List Line) (text : List ℕ) (x y : Line) → GoesOn allowed before text x → GoesOn allowed others text y → x ≡ y
+  one_line : (before others : List Line) (text : List ℕ) (x y : Line) → IsNextLine allowed before text x → IsNextLine allowed others text y → x ≡ y
   one_line before others text x y g h = line_text-injective x y g.lawful h.lawful (sym g.spelled ∙ h.spelled)
 
   are_lines_along : (a b : List Line) (texts : List (List ℕ)) (lines : List Line) → a ≡ b → AreLines allowed a texts lines → AreLines allowed b texts lines
@@ -26,7 +26,7 @@ module _ (allowed : Allowed) where
 
   -- ---- the loop over lines
 
-  AreLines-more : (before : List Line) (texts : List (List ℕ)) (lines : List Line) (text : List ℕ) (line : Line) → AreLines allowed before texts lines → GoesOn allowed (before ++ lines) text line → AreLines allowed before (texts ++ text ∷ []) (lines ++ line ∷ [])
+  AreLines-more : (before : List Line) (texts : List (List ℕ)) (lines : List Line) (text : List ℕ) (line : Line) → AreLines allowed before texts lines → IsNextLine allowed (before ++ lines) text line → AreLines allowed before (texts ++ text ∷ []) (lines ++ line ∷ [])
   AreLines-more before [] [] text line h g = (goes_on_along (before ++ []) before text line (append-nil before) g, tt)
   AreLines-more before [] (l ∷ ls) text line h g = absurd h
   AreLines-more before (t ∷ ts) [] text line h g = absurd h
@@ -42,7 +42,7 @@ module _ (allowed : Allowed) where
     pub few : length lines ≤ script_lines
     pub long : length bytes ≤ length rest + 4097 * length lines
 
-  pub reached_more : (bytes rest text more : List ℕ) (lines : List Line) (line : Line) → IsReached bytes lines rest → texts_of rest ≡ text ∷ texts_of more → length rest ≤ length text + 1 + length more → GoesOn allowed lines text line → IsReached bytes (lines ++ line ∷ []) more
+  pub reached_more : (bytes rest text more : List ℕ) (lines : List Line) (line : Line) → IsReached bytes lines rest → texts_of rest ≡ text ∷ texts_of more → length rest ≤ length text + 1 + length more → IsNextLine allowed lines text line → IsReached bytes (lines ++ line ∷ []) more
   reached_more bytes rest text more lines line r cut long g =
       let one = length-append lines (line ∷ []) in
       record {

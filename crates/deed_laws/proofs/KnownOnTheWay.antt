@@ -15,7 +15,7 @@ use Rattle.recall_daemon.proofs.Outcomes.{but_kept}
 use Rattle.marked_history.proofs.Ways.{Way, way_of, no_way, way_next, seat_next}
 use Rattle.deeds.specs.Deeds.{call_told}
 use Rattle.deeds.specs.Lives.{Workings, Living, Move, Begins, Ends, Renews, Asks, Learns, Fails, Misses, hearing, renewed, MovesTo}
-use Rattle.deed_laws.specs.Coming.{StaysOn}
+use Rattle.deed_laws.specs.DaemonSessions.{StaysOn}
 use Rattle.deed_laws.proofs.Sitting.{Remarked, Gave, HasGiven, Sits, Sound, IsSound, given_seat, seat_now, unheard}
 
 module _ (d : Daemon) (Was Is : Way → Type 0) where

@@ -21,7 +21,7 @@ use Rattle.hsm_core.specs.Store.{Store, state_of}
 use Rattle.hsm_core.specs.declared.store.Ready.{Ready}
 use Rattle.hsm_core.specs.declared.store.Ready.TheVariants.{Idle, Now, Waits}
 use Rattle.hsm_replay.specs.Deeds.{WorksOn}
-use Rattle.hsm_replay.specs.GoingOn.{CanGoOn, MayGoOn, may_go_on_by}
+use Rattle.hsm_replay.specs.ReadyCallers.{CanGoOn, MayGoOn, may_go_on_by}
 
 -- ---- an access that waits, and what a resume would answer
 

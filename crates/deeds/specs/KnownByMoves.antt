@@ -58,7 +58,7 @@ module _ {M K : Type 0} (w : Workings M) (view : M → K) where
   pub record IsKnown (k : Knowing K) : Type 0 where
     pub first : view w.first ≡ k.first
     pub again : (m : M) → view (w.again m) ≡ k.again (view m)
-    pub goes : (old : M) (told : Heard) (act : Act) (new : M) → w.GoesOn old told act new → view new ≡ k.asks (k.hears (view old) (w.asked old) told) act
+    pub goes : (old : M) (told : Heard) (act : Act) (new : M) → w.StepsOn old told act new → view new ≡ k.asks (k.hears (view old) (w.asked old) told) act
 
   -- Behind these moves it stands just as the fold says.
   abbrev pub StandsExactly : Knowing K → List Move → Type 0

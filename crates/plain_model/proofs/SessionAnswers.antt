@@ -36,9 +36,9 @@ use Rattle.plain_model.specs.Step.{World, IsFileOf, MayTell, changed_plain, file
 use Rattle.plain_model.specs.Stands.{HasBody, Stands, StandsFor, InOrder}
 use Rattle.plain_model.proofs.Bodies.{read_same}
 use Rattle.plain_model.proofs.Meeting.{meets_true}
-use Rattle.plain_model.proofs.Moving.{reading_free, writing_sound, seal_sound, restore_sound, punch_sound}
+use Rattle.plain_model.proofs.SegmentChanges.{reading_free, writing_sound, seal_sound, restore_sound, punch_sound}
 use Rattle.plain_model.proofs.Sound.{held_segment, print_length}
-use Rattle.plain_model.proofs.Standing.{IsSoundAt, sound_at, affected_stands, names_stand, file_stands, found_stands}
+use Rattle.plain_model.proofs.SoundEffects.{IsSoundAt, sound_at, affected_stands, names_stand, file_stands, found_stands}
 use Rattle.plain_model.proofs.Judged.{none_first, passes, second_holds}
 use Rattle.plain_model.proofs.Orders.{owned_open}
 

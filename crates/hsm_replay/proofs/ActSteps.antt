@@ -51,7 +51,7 @@ module _ {D M : Type 0} (g : disk.Ghosts D) (h : drive.Ghosts M) where
     pub machine : recaller.Machine
     pub runs : old.system.recall ≡ Some before
     pub act : Act
-    pub goes : recaller.GoesOn before.machine (told_next before.next) act machine
+    pub goes : recaller.StepsOn before.machine (told_next before.next) act machine
     pub performs : Performs g h Recall (recall_waits old machine act) act new
 
   pub recall_acts : (old new : Run D M) → Acts g h Recall old new → RecallActs old new
@@ -62,7 +62,7 @@ module _ {D M : Type 0} (g : disk.Ghosts D) (h : drive.Ghosts M) where
         machine = moves.1;
         runs = moves.3;
         act = acts.act;
-        goes = told_kept (λ (t : Heard). recaller.GoesOn moves.0.machine t acts.act moves.1) moves.0.next moves.2 moves.4 moves.5;
+        goes = told_kept (λ (t : Heard). recaller.StepsOn moves.0.machine t acts.act moves.1) moves.0.next moves.2 moves.4 moves.5;
         performs = subst (λ (s : System D). Performs g h Recall (record old { system = s }) acts.act new) moves.6 acts.performs;
       }
 
@@ -71,7 +71,7 @@ module _ {D M : Type 0} (g : disk.Ghosts D) (h : drive.Ghosts M) where
     pub machine : recaller.Machine
     pub runs : old.system.recall ≡ Some before
     pub act : Act
-    pub goes : recaller.GoesOn before.machine (told_next before.next) act machine
+    pub goes : recaller.StepsOn before.machine (told_next before.next) act machine
     pub stops : Stops g h Recall (recall_waits old machine act) act why new
 
   pub recall_stops : (old : Run D M) (why : Stop) (new : Run D M) → IsStopped g h Recall old why new → RecallStops old why new
@@ -82,7 +82,7 @@ module _ {D M : Type 0} (g : disk.Ghosts D) (h : drive.Ghosts M) where
         machine = moves.1;
         runs = moves.3;
         act = stopped.act;
-        goes = told_kept (λ (t : Heard). recaller.GoesOn moves.0.machine t stopped.act moves.1) moves.0.next moves.2 moves.4 moves.5;
+        goes = told_kept (λ (t : Heard). recaller.StepsOn moves.0.machine t stopped.act moves.1) moves.0.next moves.2 moves.4 moves.5;
         stops = subst (λ (s : System D). Stops g h Recall (record old { system = s }) stopped.act why new) moves.6 stopped.stops;
       }
 
@@ -110,7 +110,7 @@ module _ {D M : Type 0} (g : disk.Ghosts D) (h : drive.Ghosts M) where
     pub machine : migrator.Machine
     pub runs : old.system.migrate ≡ Some before
     pub act : Act
-    pub goes : migrator.GoesOn before.machine (told_next before.next) act machine
+    pub goes : migrator.StepsOn before.machine (told_next before.next) act machine
     pub performs : Performs g h Migrate (migrate_waits old machine act) act new
 
   pub migrate_acts : (old new : Run D M) → Acts g h Migrate old new → MigrateActs old new
@@ -121,7 +121,7 @@ module _ {D M : Type 0} (g : disk.Ghosts D) (h : drive.Ghosts M) where
         machine = moves.1;
         runs = moves.3;
         act = acts.act;
-        goes = told_kept (λ (t : Heard). migrator.GoesOn moves.0.machine t acts.act moves.1) moves.0.next moves.2 moves.4 moves.5;
+        goes = told_kept (λ (t : Heard). migrator.StepsOn moves.0.machine t acts.act moves.1) moves.0.next moves.2 moves.4 moves.5;
         performs = subst (λ (s : System D). Performs g h Migrate (record old { system = s }) acts.act new) moves.6 acts.performs;
       }
 
@@ -130,7 +130,7 @@ module _ {D M : Type 0} (g : disk.Ghosts D) (h : drive.Ghosts M) where
     pub machine : migrator.Machine
     pub runs : old.system.migrate ≡ Some before
     pub act : Act
-    pub goes : migrator.GoesOn before.machine (told_next before.next) act machine
+    pub goes : migrator.StepsOn before.machine (told_next before.next) act machine
     pub stops : Stops g h Migrate (migrate_waits old machine act) act why new
 
   pub migrate_stops : (old : Run D M) (why : Stop) (new : Run D M) → IsStopped g h Migrate old why new → MigrateStops old why new
@@ -141,7 +141,7 @@ module _ {D M : Type 0} (g : disk.Ghosts D) (h : drive.Ghosts M) where
         machine = moves.1;
         runs = moves.3;
         act = stopped.act;
-        goes = told_kept (λ (t : Heard). migrator.GoesOn moves.0.machine t stopped.act moves.1) moves.0.next moves.2 moves.4 moves.5;
+        goes = told_kept (λ (t : Heard). migrator.StepsOn moves.0.machine t stopped.act moves.1) moves.0.next moves.2 moves.4 moves.5;
         stops = subst (λ (s : System D). Stops g h Migrate (record old { system = s }) stopped.act why new) moves.6 stopped.stops;
       }
 

@@ -22,8 +22,8 @@ use Rattle.hsm_core.specs.Answers.{IsAnswer, IsDone, entry_of, memory_of}
 use Rattle.hsm_core.specs.Store.{Store, state_of}
 use Rattle.hsm_system.specs.declared.stops.Stop.{Stop}
 use Rattle.hsm_system.specs.declared.stops.Stop.TheVariants as stop
-use Rattle.deeds.specs.Deeds.{IsServed}
-use Rattle.hsm_system.specs.Events.{GoesOn, IsStoppedFor, Runs}
+use Rattle.deeds.specs.Deeds.{StopsNothing}
+use Rattle.hsm_system.specs.Events.{HasGrown, IsStoppedFor, Runs}
 use Rattle.hsm_system.specs.Goes.{HasClosed, StillWorks, WasClosed}
 use Rattle.hsm_system.specs.Stops.{stop_answer}
 
@@ -55,7 +55,7 @@ undone_at stop.Memory (Dm asked) = refl
 undone_at stop.Memory Commit = refl
 
 -- what is done is served
-done_served : (given : Answer) → is_undone given ≡ false → IsServed given
+done_served : (given : Answer) → is_undone given ≡ false → StopsNothing given
 done_served (Replied (calls.Refused refusal.Disk)) is = let wrong : true ≡ false = is in cc wrong
 done_served (Replied (calls.Refused refusal.Memory)) is = let wrong : true ≡ false = is in cc wrong
 done_served (Told (told.Refused dm.Disk)) is = let wrong : true ≡ false = is in cc wrong
@@ -68,10 +68,10 @@ StoreEnds stop.Disk actor action old new = (new.history ≡ old.history ++ entry
 StoreEnds stop.Memory actor action old new = (new.history ≡ old.history) × StillWorks old new
 
 module _ {D : Type 0} (g : disk.Ghosts D) where
-  pub goes_itself : (s : Store D) → GoesOn g s s
+  pub goes_itself : (s : Store D) → HasGrown g s s
   goes_itself s = record { more = []; history = sym (append-nil s.history); opened = refl; faults = omega arith; tells = λ now. now; quiet = λ works. (works, refl) }
 
-  pub goes_then : (a b c : Store D) → GoesOn g a b → GoesOn g b c → GoesOn g a c
+  pub goes_then : (a b c : Store D) → HasGrown g a b → HasGrown g b c → HasGrown g a c
   goes_then a b c first then = record {
     more = first.more ++ then.more;
     history = then.history ∙ ap (λ (h : List Entry). h ++ then.more) first.history ∙ append_assoc a.history first.more then.more;
@@ -82,7 +82,7 @@ module _ {D : Type 0} (g : disk.Ghosts D) where
   }
 
   -- what stopped a store that worked till then is all that has failed
-  pub stopped_then : (a b c : Store D) (why : Stop) → GoesOn g a b → b.files.failed ≡ false → IsStoppedFor g b c why → IsStoppedFor g a c why
+  pub stopped_then : (a b c : Store D) (why : Stop) → HasGrown g a b → b.files.failed ≡ false → IsStoppedFor g b c why → IsStoppedFor g a c why
   stopped_then a b c stop.Memory goes working stopped = stopped
   stopped_then a b c stop.Disk goes working stopped = (subst (λ (count : ℕ). RoseByOne count (g.fault_count c.files.disk)) (goes.quiet working).1 stopped.0, stopped.1)
 
@@ -95,7 +95,7 @@ module _ {D : Type 0} (g : disk.Ghosts D) where
         let wrong : true ≡ false = sym (undone_at why action) ∙ ap is_undone (sym stops) ∙ served in
         cc wrong
 
-    pub event_goes : IsAnswer g old actor action given new → GoesOn g old new
+    pub event_goes : IsAnswer g old actor action given new → HasGrown g old new
     event_goes (inl closed) = let same = closed.same in record { more = []; history = ap (λ s. s.history) same ∙ sym (append-nil old.history); opened = ap (λ s. s.opened) same; faults = let e = ap (λ s. g.fault_count s.files.disk) same in omega (arith, e); tells = subst (λ (s : Store D). Tells g s.files.disk) same; quiet = λ works. let wrong : true ≡ false = sym closed.failed ∙ sym (ap (λ s. s.files.failed) same) ∙ works in cc wrong }
     event_goes (inr (inl lacks)) = record { more = []; history = lacks.history ∙ sym (append-nil old.history); opened = lacks.goes.opened; faults = lacks.goes.within.faults; tells = lacks.goes.within.tells; quiet = λ works. (lacks.goes.working, lacks.quiet) }
     event_goes (inr (inr (inl failed))) = record { more = entry_of actor action (fault_of action) ∷ []; history = failed.history; opened = failed.goes.opened; faults = failed.goes.within.faults; tells = failed.goes.within.tells; quiet = λ works. let wrong : true ≡ false = sym failed.failed ∙ works in cc wrong }
@@ -137,7 +137,7 @@ module _ {D : Type 0} (g : disk.Ghosts D) where
     event_works (inr (inr (inr done))) goes = (done.goes.working, done.still)
 
     -- and its answer is no fault and no want of memory
-    pub event_served : IsAnswer g old actor action given new → ((why : Stop) → given ≢ stop_answer why action) → IsServed given
+    pub event_served : IsAnswer g old actor action given new → ((why : Stop) → given ≢ stop_answer why action) → StopsNothing given
     event_served (inl closed) goes = absurd (goes stop.Disk closed.answer)
     event_served (inr (inl lacks)) goes = absurd (goes stop.Memory lacks.answer)
     event_served (inr (inr (inl failed))) goes = absurd (goes stop.Disk failed.answer)
