@@ -7,7 +7,7 @@ ghost use Rattle.file_body.specs.BodyBlocks.{block_of};
 ghost use Rattle.file_body.specs.Segments.{IsCut};
 ghost use Rattle.file_body.specs.HeldBodies.{pieces, aways, stands_away, AreZeros, Misses};
 
-use crate::segments::{FULL, Segment};
+use crate::segments::{FULL, Segment, ZEROS};
 use hsm_types::BLOCK_BYTES;
 use std::alloc::{AllocError, Global};
 
@@ -75,19 +75,22 @@ pub fn fill_block(segments: &[Segment], block: usize, buffer: &mut [u8])
     let place = block * BLOCK;
     let count = len(segments).saturating_sub(place).min(BLOCK);
     if count == 0 {
-        buffer.fill(0);
+        put_front(buffer, &[]);
         return;
     }
     put_front(buffer, piece_at(segments, place, count));
 }
 
-/// Fills the buffer with the bytes, and zeros behind them.
+/// Fills the buffer of a block with the bytes, and zeros behind them.
 fn put_front(buffer: &mut [u8], bytes: &[u8])
-    requires { length bytes.now ≤ length buffer.old }
-    ensures { buffer.new ≡ bytes.now ++ replicate (length buffer.old - length bytes.now) 0 }
+    requires block { length buffer.old ≡ BLOCK_BYTES }
+    requires fits { length bytes.now ≤ BLOCK_BYTES }
+    ensures { buffer.new ≡ bytes.now ++ replicate (BLOCK_BYTES - length bytes.now) 0 }
 {
-    buffer[bytes.len()..].fill(0);
-    buffer[..bytes.len()].copy_from_slice(bytes);
+    let (front, rest) = buffer.split_at_mut(bytes.len());
+    let count = rest.len();
+    front.copy_from_slice(bytes);
+    rest.copy_from_slice(&ZEROS[..count]);
 }
 
 /// Writes the bytes over those at the offset, which are here.

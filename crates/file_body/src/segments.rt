@@ -9,8 +9,8 @@ use std::marker::Model;
 /// The bytes of a full segment.
 pub const FULL: usize = SEGMENT_BYTES as usize;
 
-/// What is read of a segment that is away.
-static ZEROS: [u8; FULL] = [0; FULL];
+/// What is read of a segment that is away, or behind the end of a body.
+pub(crate) static ZEROS: [u8; FULL] = [0; FULL];
 
 /// A segment of a body, at most [`FULL`] bytes, which are here or away. Contracts see the bytes, with zeros in the place of those that are away.
 #[derive(Drop)]
