@@ -91,7 +91,7 @@ pub(crate) fn segments_of(
 }
 
 /// What is held of one segment.
-#[tactic(auto, using(crate::proofs::Told::mapped_places))]
+#[tactic(auto, using(crate::proofs::ToldSegments::mapped_places))]
 fn segment_of(segment: u32, parts: &FileParts) -> Segment
     ensures { result ≡ segment_as (count_by (λ b. b) (take segment_blocks (drop (segment_blocks * segment) (map is_some parts.now.places)))) (stub_at segment parts.now.stubs) }
 {
