@@ -21,7 +21,7 @@ use Rattle.plain_model.specs.State.{Held, State}
 use Rattle.plain_model.specs.Exact.{answer_to, left_answered, left_by, IsOwnSeen}
 use Rattle.plain_model.specs.Seen.{IsSeen, IsOfSeen}
 use Rattle.plain_model.specs.Synced.{is_sync}
-use Rattle.plain_model.proofs.Faultless.{own_faultless}
+use Rattle.plain_model.proofs.Faultless.{own_faultless, fault_is}
 use Rattle.snapshot_text.specs.declared.refusal.MetaRefusal.{MetaRefusal}
 use Rattle.snapshot_text.specs.declared.refusal.MetaRefusal.TheVariants.{Part, Memory as NoMemory, Disk as Failed}
 use Rattle.file_store.specs.Stores.{superblock_of, Proceeds}
@@ -62,7 +62,8 @@ module _ {D : Type 0} (g : disk.Ghosts D) (s t : Store D) (has : HasRun g s) (sa
       → g.fault_count t.files.disk ≡ g.fault_count s.files.disk → (is_sync (entry_of actor action answer) ≡ true → IsSynced g (last_number s) s.files t.files) → IsNext g s actor action answer t
   done answered history leaves still quiet synced =
       let faultless = own_is_faultless answered in (
-        HasRun-kept g s t has (last_number s) opened proceeds (entry_of actor action answer) working history (inr answered) (λ still. (faultless, leaves ∙ sym (own_leaves faultless))),
+        HasRun-kept g s t has (last_number s) opened proceeds (entry_of actor action answer) working history (inr answered) (λ still. (faultless, leaves ∙ sym (own_leaves faultless)))
+            (record { told = λ failed. true_false t.files.failed failed still; once = λ failed. true_false t.files.failed failed still; quiet = λ same. quiet }),
         safe_kept g s t has safe working opened proceeds (entry_of actor action answer) history still synced,
         inr (inr (inr (record {
           goes = record { opened = opened; working = working; proceeds = proceeds; within = safe_within g s has t safe working proceeds };
@@ -78,7 +79,7 @@ module _ {D : Type 0} (g : disk.Ghosts D) (s t : Store D) (has : HasRun g s) (sa
   lacking : answer ≡ memory_of action → t.history ≡ s.history → t.stamps ≡ s.stamps → t.tables ≡ s.tables → state_of t ≡ state_of s → t.files.failed ≡ false
       → g.fault_count t.files.disk ≡ g.fault_count s.files.disk → IsNext g s actor action answer t
   lacking answered history stamps tables state still quiet = (
-    HasRun-unkept g s t has (last_number s) opened proceeds working history state,
+    HasRun-unkept g s t has (last_number s) opened proceeds working history state still quiet,
     safe_unkept g s t has safe working opened proceeds history still,
     inr (inl (record {
       goes = record { opened = opened; working = working; proceeds = proceeds; within = safe_within g s has t safe working proceeds };
@@ -95,7 +96,8 @@ module _ {D : Type 0} (g : disk.Ghosts D) (s t : Store D) (has : HasRun g s) (sa
   faulted : Acts actor action → answer ≡ fault_of action → t.history ≡ s.history ++ entry_of actor action (fault_of action) ∷ [] → t.stamps ≡ s.stamps → t.tables ≡ s.tables → t.files.failed ≡ true
       → RoseByOne (g.fault_count s.files.disk) (g.fault_count t.files.disk) → IsNext g s actor action answer t
   faulted acts answered history stamps tables failed once = (
-    HasRun-kept g s t has (last_number s) opened proceeds (entry_of actor action (fault_of action)) working history (inl (acts, refl)) (λ still. true_false t.files.failed failed still),
+    HasRun-kept g s t has (last_number s) opened proceeds (entry_of actor action (fault_of action)) working history (inl (acts, refl)) (λ still. true_false t.files.failed failed still)
+        (record { told = λ closed. fault_is action; once = λ closed. once; quiet = λ still. true_false t.files.failed failed still }),
     safe_faulted g s t has safe working opened proceeds (entry_of actor action (fault_of action)) history (fault_no_sync action) failed,
     inr (inr (inl (record {
       goes = record { opened = opened; working = working; proceeds = proceeds; within = safe_within g s has t safe working proceeds };

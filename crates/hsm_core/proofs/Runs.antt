@@ -3,6 +3,7 @@ use Rattle.std.proofs.Common.{◌≡◌, ℕ, ◌+◌, List, [], ◌∷◌, ◌+
 use Rattle.std.specs.Prelude.{IfSome}
 use Rattle.std.specs.Option.{option_map}
 use Rattle.disk_model.specs.declared.device.Disk as disk
+use Rattle.disk_model.specs.Calls.{raised, RoseByOne}
 use Rattle.disk_model.specs.Moments.{Tells}
 use Rattle.hsm_types.specs.declared.stores.Limits.{Limits}
 use Rattle.hsm_types.specs.declared.stores.Superblock.{Superblock}
@@ -36,6 +37,7 @@ kept good g s has packed = record {
   good = λ tells. good (superblock_of s.opened) s.opened.meta.number s.opened.held s.history (told_run tells (superblock_of s.opened) s.opened.meta.number s.opened.held s.history has.run);
   packed = packed;
   faultless = has.faultless;
+  failure = has.failure;
   state = has.state;
 }
 
@@ -46,12 +48,17 @@ pub true_false : {A : Type 0} (b : Bool) → b ≡ true → b ≡ false → A
 true_false b is isnt = absurd cc
 
 -- a store that was just opened
-pub HasRun-opened : {D : Type 0} (g : disk.Ghosts D) (s : Store D) → s.opened ≡ s.files → s.history ≡ [] → s.stamps ≡ [] → AreNew s.tables → IsOpening s.files.held → HasRun g s
-HasRun-opened g s opened none stamps new opening = record {
+pub HasRun-opened : {D : Type 0} (g : disk.Ghosts D) (s : Store D) → s.opened ≡ s.files → s.files.failed ≡ false → s.history ≡ [] → s.stamps ≡ [] → AreNew s.tables → IsOpening s.files.held → HasRun g s
+HasRun-opened g s opened works none stamps new opening = record {
   geometry = rw opened refl;
   fsid = rw opened refl;
   run = record { opening = rw opened opening; exact = rw none tt };
   faultless = λ working. rw none refl;
+  failure = record {
+    told = λ failed. true_false s.files.failed failed works;
+    once = λ failed. true_false s.files.failed failed works;
+    quiet = λ working. rw opened refl;
+  };
   state = λ working. rw (none, opened, stamps) (λ i. record { held = s.files.held; stamps = λ k. 0; number = plus_nothing s.files.meta.number i; sessions = (new i).sessions; rights = (new i).rights; flags = (new i).flags; ledger = (new i).ledger });
 }
 
@@ -75,19 +82,30 @@ module _ {D : Type 0} (g : disk.Ghosts D) (s t : Store D) (has : HasRun g s) (n 
   run_before = weaker_run proceeds.moments.tells (superblock_of s.opened) s.opened.meta.number (opening_of s) s.history has.run
 
   -- an event that isn't kept
-  pub HasRun-unkept : s.files.failed ≡ false → t.history ≡ s.history → state_of t ≡ state_of s → HasRun g t
-  HasRun-unkept working history state = record {
+  pub HasRun-unkept : s.files.failed ≡ false → t.history ≡ s.history → state_of t ≡ state_of s → t.files.failed ≡ false → g.fault_count t.files.disk ≡ g.fault_count s.files.disk → HasRun g t
+  HasRun-unkept working history state still quiet = record {
     geometry = proceeds.geometry ∙ has.geometry ∙ rw opened refl;
     fsid = proceeds.fsid ∙ has.fsid ∙ rw opened refl;
     run = rw (opened, history) run_before;
     faultless = λ still. rw history (has.faultless working);
+    failure = record {
+      told = λ failed. true_false t.files.failed failed still;
+      once = λ failed. true_false t.files.failed failed still;
+      quiet = λ same. rw opened (quiet ∙ has.failure.quiet working);
+    };
     state = λ still. state ∙ has.state working ∙ rw (opened, history) refl;
   }
 
+  -- the event's own call of the disk that failed
+  pub record TellsEvent (e : Entry) : Type 0 where
+    pub told : t.files.failed ≡ true → is_fault e.answer ≡ true
+    pub once : t.files.failed ≡ true → RoseByOne (g.fault_count s.files.disk) (g.fault_count t.files.disk)
+    pub quiet : t.files.failed ≡ false → g.fault_count t.files.disk ≡ g.fault_count s.files.disk
+
   -- an event more, answered over what is seen
   pub HasRun-kept : (e : Entry) → s.files.failed ≡ false → t.history ≡ s.history ++ e ∷ [] → IsAnswerSeen (Tells g t.files.disk) (superblock_of s.opened) (state_of s) e.actor e.action e.answer
-      → (t.files.failed ≡ false → (is_fault e.answer ≡ false) × (state_of t ≡ left_by (superblock_of s.opened) (state_of s) e.actor e.action e.answer)) → HasRun g t
-  HasRun-kept e working history is leaves =
+      → (t.files.failed ≡ false → (is_fault e.answer ≡ false) × (state_of t ≡ left_by (superblock_of s.opened) (state_of s) e.actor e.action e.answer)) → TellsEvent e → HasRun g t
+  HasRun-kept e working history is leaves tells =
       let start : State = just_opened s.opened.meta.number s.opened.held in
       record {
         geometry = proceeds.geometry ∙ has.geometry ∙ rw opened refl;
@@ -98,6 +116,11 @@ module _ {D : Type 0} (g : disk.Ghosts D) (s t : Store D) (has : HasRun g s) (n 
               (subst (λ (st : State). IsAnswerSeen (Tells g t.files.disk) (superblock_of s.opened) st e.actor e.action e.answer) (has.state working) is);
         });
         faultless = λ still. rw (history, has_fault-push s.history e (has.faultless working)) (leaves still).0;
+        failure = record {
+          told = λ failed. rw (history, has_fault-push s.history e (has.faultless working)) (tells.told failed);
+          once = λ failed. rw opened (tells.once failed ∙ ap raised (has.failure.quiet working));
+          quiet = λ still. rw opened (tells.quiet still ∙ has.failure.quiet working);
+        };
         state = λ still. (leaves still).1 ∙ ap (λ (st : State). left_by (superblock_of s.opened) st e.actor e.action e.answer) (has.state working)
             ∙ sym (state_by-push (superblock_of s.opened) start s.history e) ∙ rw (opened, history) refl;
       }

@@ -1,5 +1,6 @@
 -- A store as its callers and sessions see it.
-use Rattle.std.specs.Prelude.{ℕ, ◌≡◌, ◌+◌, ◌≤◌, false, length, List}
+use Rattle.std.specs.Prelude.{ℕ, ◌≡◌, ◌+◌, ◌≤◌, true, false, length, List}
+use Rattle.disk_model.specs.Calls.{RoseByOne}
 use Rattle.disk_model.specs.Moments.{Tells}
 use Rattle.disk_model.specs.declared.device.Disk as disk
 use Rattle.hsm_types.specs.declared.keys.FileKey.{FileKey}
@@ -46,6 +47,12 @@ state_of s = state_with s.files.held s.stamps s.tables (last_number s)
 abbrev pub opening_of : {D : Type 0} → Store D → Held
 opening_of s = s.opened.held
 
+-- Since it was opened just one call of the disk has failed where the store is closed, which an entry tells, and none where it works.
+pub record TellsFailure {D : Type 0} (g : disk.Ghosts D) (s : Store D) : Type 0 where
+  pub told : s.files.failed ≡ true → has_fault s.history ≡ true
+  pub once : s.files.failed ≡ true → RoseByOne (g.fault_count s.opened.disk) (g.fault_count s.files.disk)
+  pub quiet : s.files.failed ≡ false → g.fault_count s.files.disk ≡ g.fault_count s.opened.disk
+
 -- The store is formatted as it was when it was opened, and its history is a run from there: exact but for bytes, and for whether these refuse a seal, and in
 -- these too where the disk tells what it holds. As long as no call of the disk has failed it has no fault, and the store's state is what the history leaves.
 pub record HasRun {D : Type 0} (g : disk.Ghosts D) (s : Store D) : Type 0 where
@@ -53,4 +60,5 @@ pub record HasRun {D : Type 0} (g : disk.Ghosts D) (s : Store D) : Type 0 where
   pub fsid : s.files.meta.fsid ≡ s.opened.meta.fsid
   pub run : IsRunSeen (Tells g s.files.disk) (superblock_of s.opened) s.opened.meta.number (opening_of s) s.history
   pub faultless : s.files.failed ≡ false → has_fault s.history ≡ false
+  pub failure : TellsFailure g s
   pub state : s.files.failed ≡ false → state_of s ≡ state_by (superblock_of s.opened) (just_opened s.opened.meta.number (opening_of s)) s.history
