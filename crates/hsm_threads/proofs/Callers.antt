@@ -17,7 +17,7 @@ use Rattle.hsm_threads.specs.Lots.{Issues, IssuesBy, Lot, Makes, Resumes, Resume
 use Rattle.hsm_threads.specs.Steps.{stop_of}
 use Rattle.hsm_threads.specs.declared.run.Next.{Next}
 use Rattle.hsm_threads.specs.declared.run.Next.TheVariants as next
-use Rattle.hsm_threads.proofs.Going.{event_deeds, no_stop}
+use Rattle.hsm_threads.proofs.RunDeeds.{event_deeds, no_stop}
 
 module _ {D : Type 0} (g : disk.Ghosts D) where
   pub makes : (made : Event) → NamesNoFault (action_of made) → (result : Result (Unit {0}) Stop) (old new : Lot D) → old.system.store.files.failed ≡ false → IsDone g (actor_of made) (action_of made) result old.system new.system

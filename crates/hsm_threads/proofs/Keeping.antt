@@ -42,12 +42,12 @@ use Rattle.hsm_system.specs.declared.stops.Stop.{Stop}
 use Rattle.hsm_system.specs.declared.stops.Stop.TheVariants as stop
 use Rattle.hsm_system.proofs.Leading.{holds_then}
 use Rattle.hsm_replay.specs.Parts.{done_by, resting}
-use Rattle.hsm_threads.specs.Deeds.{IsByCaller, IsOfRun, WasRun, entered}
+use Rattle.hsm_threads.specs.Deeds.{IsByCaller, IsOfRun, LosesNothing, WasRun, entered}
 use Rattle.hsm_threads.specs.Lots.{Lot, IsLot}
-use Rattle.hsm_threads.specs.Steps.{IsStepOf, closes, stop_of}
+use Rattle.hsm_threads.specs.Steps.{IsStepOf, closes, lacks, stop_of}
 use Rattle.hsm_threads.specs.declared.steps.Asked.{Asked}
 use Rattle.hsm_threads.specs.declared.steps.Asked.TheVariants as asked
-use Rattle.hsm_threads.proofs.Going.{answers_itself, event_closed, event_deeds, no_stop}
+use Rattle.hsm_threads.proofs.RunDeeds.{answers_itself, event_closed, event_deeds, no_stop}
 use Rattle.hsm_threads.proofs.Issuing.{idle_pending, issue_made}
 
 -- ---- deeds of daemons enter no caller's call
@@ -103,6 +103,34 @@ lacked_deeds daemon deeds (inr lost) = subst IsDaemons (sym lost) (lost_deeds da
 pub start_deeds : (daemon : Daemon) (deeds : List Deed) → deeds ≡ Starts daemon ∷ [] → IsDaemons deeds
 start_deeds daemon deeds is = subst IsDaemons (sym is) (record { of_run = All-from_recursion IsOfRun (Starts daemon ∷ []) (tt, tt); enters = inl refl })
 
+-- ---- what daemons were to hear isn't lost
+
+abbrev AllHeard : List Deed → Type 0
+AllHeard deeds = All LosesNothing deeds
+
+heard_all : (deeds : List Deed) → AllByRecursion LosesNothing deeds → AllHeard deeds
+heard_all = All-from_recursion LosesNothing
+
+pub step_heard : (daemon : Daemon) (result : Result Asked Stop) → stop_of result ≡ None → (deeds : List Deed) → IsStepOf daemon result deeds → AllHeard deeds
+step_heard daemon (Ok asked.Nothing) on deeds none = subst AllHeard (sym none) (heard_all [] tt)
+step_heard daemon (Ok asked.Called) on deeds made = subst AllHeard (sym made.3) (heard_all (done_by daemon (record { asked = act.Dm made.0 made.1; told = heard.Dm made.2 })) (tt, (tt, tt)))
+step_heard daemon (Ok asked.Rests) on deeds is = subst AllHeard (sym is) (heard_all (done_by daemon resting) (tt, (tt, tt)))
+step_heard daemon (Ok (asked.Performs given)) on deeds left = subst AllHeard (sym left.1) (heard_all (Gives daemon given ∷ []) (tt, tt))
+step_heard daemon (Err why) on deeds is = let wrong : Some why ≡ None = on in cc wrong
+
+pub told_heard : (daemon : Daemon) (o : Outcome) (deeds : List Deed) → HearsOf daemon o deeds → AllHeard deeds
+told_heard daemon o deeds (inl none) = subst AllHeard (sym none) (heard_all [] tt)
+told_heard daemon o deeds (inr heard) = subst AllHeard (sym heard.2) (heard_all (Hears daemon heard.0 (heard_of o) ∷ []) (tt, tt))
+
+pub start_heard : (daemon : Daemon) (deeds : List Deed) → deeds ≡ Starts daemon ∷ [] → AllHeard deeds
+start_heard daemon deeds is = subst AllHeard (sym is) (heard_all (Starts daemon ∷ []) (tt, tt))
+
+-- an event of a caller
+entered_heard : (stop : Option Stop) (e : Entry) → AllHeard (entered stop e)
+entered_heard None e = heard_all (Enters e ∷ []) (tt, tt)
+entered_heard (Some stop.Disk) e = heard_all (Enters e ∷ []) (tt, tt)
+entered_heard (Some stop.Memory) e = heard_all [] tt
+
 -- ---- the calls that callers have made
 
 session_calls : (c : ℕ) (history : List Entry) (deeds : List Deed) → EntersNone deeds → calls_of c (history ++ entries_of deeds) ≡ calls_of c history
@@ -140,40 +168,43 @@ module _ {D : Type 0} (opened_as : Option (FileStore D)) (limits : Numbers) (lin
     deeds = [];
     holds = record { entries = empty; recall = refl; migrate = refl; right = All-from_recursion _ [] tt };
     of_run = All-from_recursion IsOfRun [] tt;
+    heard = λ on. heard_all [] tt;
     closed = works;
     made = none_made lines lists store.history each empty;
   })
 
-  pub was_run : (l : Lot D) → Lies l → WasRun limits l.system.store.history
-  was_run l is = record { deeds = is.deeds; entries = sym is.holds.entries; served = (_, subst (λ (n : Numbers). Leads recalls (migrates n) is.deeds nothing_done (situation_of l.system)) is.settings is.holds); of_run = is.of_run }
+  pub was_run : (l : Lot D) → Lies l → WasRun limits l.stop l.system.store.history
+  was_run l is = record { deeds = is.deeds; entries = sym is.holds.entries; served = (_, subst (λ (n : Numbers). Leads recalls (migrates n) is.deeds nothing_done (situation_of l.system)) is.settings is.holds); of_run = is.of_run; heard = is.heard }
 
   module _ (old : Lot D) (lies : Lies old) where
     -- The one lemma: deeds of a run that lead on, on the same store, where callers have made their calls.
-    lies_more : (new : Lot D) (more : List Deed) → Goes more old.system new.system → All IsOfRun more → new.system.store.opened ≡ old.system.store.opened → new.system.store.files.failed ≡ closes new.stop
-        → AreMade (is_some new.stop) lines new.lists new.system.store.history → Lies new
-    lies_more new more goes of_run same closed made = record {
+    lies_more : (new : Lot D) (more : List Deed) → Goes more old.system new.system → All IsOfRun more → (new.stop ≡ None → (old.stop ≡ None) × AllHeard more) → new.system.store.opened ≡ old.system.store.opened → new.system.store.files.failed ≡ closes new.stop
+        → AreMade (lacks new.stop) lines new.lists new.system.store.history → Lies new
+    lies_more new more goes of_run heard same closed made = record {
       opened = lies.opened ∙ ap Some (sym same);
       settings = goes.limits ∙ lies.settings;
       deeds = lies.deeds ++ more;
       holds = holds_then lies.deeds more old.system new.system lies.holds goes;
       of_run = All-append IsOfRun lies.deeds more lies.of_run of_run;
+      heard = λ on. All-append LosesNothing lies.deeds more (lies.heard (heard on).0) (heard on).1;
       closed = closed;
       made = made;
     }
 
     -- what a daemon does leaves the callers' calls
     pub lies_by : (IsPart : List Deed → Type 0) → ((deeds : List Deed) → IsPart deeds → IsDaemons deeds) → (system : System D) (now : Option Stop) → GoesBy IsPart old.system system → system.store.opened ≡ old.system.store.opened
-        → system.store.files.failed ≡ closes now → (is_some now ≡ false → is_some old.stop ≡ false) → Lies (record { system = system; lists = old.lists; stop = now })
-    lies_by IsPart are system now goes same closed on =
+        → system.store.files.failed ≡ closes now → (lacks now ≡ false → lacks old.stop ≡ false) → (now ≡ None → (old.stop ≡ None) × ((deeds : List Deed) → IsPart deeds → AllHeard deeds))
+        → Lies (record { system = system; lists = old.lists; stop = now })
+    lies_by IsPart are system now goes same closed made heard =
         let is = are goes.0 goes.1 in
-        lies_more (record { system = system; lists = old.lists; stop = now }) goes.0 goes.2 is.of_run same closed
-        (still_made lines old.lists old.system.store.history system.store.history (is_some old.stop) (is_some now) lies.made (λ c. ap (calls_of c) goes.2.leads.entries ∙ session_calls c old.system.store.history goes.0 is.enters) on)
+        lies_more (record { system = system; lists = old.lists; stop = now }) goes.0 goes.2 is.of_run (λ on. ((heard on).0, (heard on).1 goes.0 goes.1)) same closed
+        (still_made lines old.lists old.system.store.history system.store.history (lacks old.stop) (lacks now) lies.made (λ c. ap (calls_of c) goes.2.leads.entries ∙ session_calls c old.system.store.history goes.0 is.enters) made)
 
     -- nor does it touch the store, where it makes no call
     pub lies_beside : (IsPart : List Deed → Type 0) → ((deeds : List Deed) → IsPart deeds → IsDaemons deeds) → (system : System D) (now : Option Stop) → GoesBy IsPart old.system system → system.store ≡ old.system.store → closes now ≡ closes old.stop
-        → (is_some now ≡ false → is_some old.stop ≡ false) → Lies (record { system = system; lists = old.lists; stop = now })
-    lies_beside IsPart are system now goes same alike on =
-        lies_by IsPart are system now goes (ap (λ (s : Store D). s.opened) same) (ap (λ (s : Store D). s.files.failed) same ∙ lies.closed ∙ sym alike) on
+        → (lacks now ≡ false → lacks old.stop ≡ false) → (now ≡ None → (old.stop ≡ None) × ((deeds : List Deed) → IsPart deeds → AllHeard deeds)) → Lies (record { system = system; lists = old.lists; stop = now })
+    lies_beside IsPart are system now goes same alike made heard =
+        lies_by IsPart are system now goes (ap (λ (s : Store D). s.opened) same) (ap (λ (s : Store D). s.files.failed) same ∙ lies.closed ∙ sym alike) made heard
 
     -- the run hadn't stopped, so its store works
     module _ (on : is_some old.stop ≡ false) where
@@ -181,13 +212,13 @@ module _ {D : Type 0} (opened_as : Option (FileStore D)) (limits : Numbers) (lin
       works_still = lies.closed ∙ ap closes (no_stop old.stop on)
 
       made_now : AreMade false lines old.lists old.system.store.history
-      made_now = subst (λ (stopped : Bool). AreMade stopped lines old.lists old.system.store.history) on lies.made
+      made_now = subst (λ (stop : Option Stop). AreMade (lacks stop) lines old.lists old.system.store.history) (no_stop old.stop on) lies.made
 
       -- a step of a daemon
       pub lies_stepped : (daemon : Daemon) (result : Result Asked Stop) (stop : Option Stop) (system : System D) → stop ≡ stop_of result → GoesBy (IsStepOf daemon result) old.system system
           → system.store.opened ≡ old.system.store.opened → system.store.files.failed ≡ closes (stop_of result) → Lies (record { system = system; lists = old.lists; stop = stop })
       lies_stepped daemon result stop system is goes same closed =
-          lies_by (IsStepOf daemon result) (step_deeds daemon result) system stop goes same (closed ∙ ap closes (sym is)) (λ goes_on. on)
+          lies_by (IsStepOf daemon result) (step_deeds daemon result) system stop goes same (closed ∙ ap closes (sym is)) (λ none. ap lacks (no_stop old.stop on)) (λ none. (no_stop old.stop on, step_heard daemon result (sym is ∙ none)))
 
     -- a caller's list had ended
     pub lies_ended : (d : ℕ) (left : List CallList) → left_of old.lists d ≡ [] → left_of left d ≡ [] → ((c : ℕ) → c ≢ d → left_of left c ≡ left_of old.lists c) → Lies (record old { lists = left })
@@ -197,16 +228,17 @@ module _ {D : Type 0} (opened_as : Option (FileStore D)) (limits : Numbers) (lin
       deeds = lies.deeds;
       holds = lies.holds;
       of_run = lies.of_run;
+      heard = lies.heard;
       closed = lies.closed;
-      made = none_next lines old.lists old.system.store.history d (is_some old.stop) left lies.made before behind others;
+      made = none_next lines old.lists old.system.store.history d (lacks old.stop) left lies.made before behind others;
     }
 
     module _ (g : disk.Ghosts D) (d : ℕ) (on : is_some old.stop ≡ false) (new : System D) where
       event_lies : (asked : Action) → NamesNoFault asked → (result : Result (Unit {0}) Stop) (left : List CallList) (stop : Option Stop) (done : IsDone g (Caller d) asked result old.system new) → IsByCaller (Caller d) asked done.given
-          → stop ≡ stop_of result → AreMade (is_some stop) lines left new.store.history → Lies (record { system = new; lists = left; stop = stop })
+          → stop ≡ stop_of result → AreMade (lacks stop) lines left new.store.history → Lies (record { system = new; lists = left; stop = stop })
       event_lies asked may result left stop done by is made =
           lies_more (record { system = new; lists = left; stop = stop }) (entered (stop_of result) (entry_of (Caller d) asked done.given)) (event_deeds g (Caller d) asked may old.system new (works_still on) result done)
-          (entered_of_run (stop_of result) (entry_of (Caller d) asked done.given) by) done.runs.goes_on.opened (event_closed g (Caller d) asked may old.system new (works_still on) result done ∙ ap closes (sym is)) made
+          (entered_of_run (stop_of result) (entry_of (Caller d) asked done.given) by) (λ none. (no_stop old.stop on, entered_heard (stop_of result) (entry_of (Caller d) asked done.given))) done.runs.goes_on.opened (event_closed g (Caller d) asked may old.system new (works_still on) result done ∙ ap closes (sym is)) made
 
       -- ---- a caller's call
 
@@ -225,16 +257,16 @@ module _ {D : Type 0} (opened_as : Option (FileStore D)) (limits : Numbers) (lin
         made_lost : new.store.history ≡ old.system.store.history → AreMade true lines left new.store.history
         made_lost same = next_lost lines old.lists old.system.store.history new.store.history d call left (made_now on) taken others (λ c. ap (calls_of c) same)
 
-        made_by : (stop : Option Stop) (given : Answer) → call_made (action.Issue call) given ≡ Some call → Goes (entered stop (entry_of (Caller d) (action.Issue call) given)) old.system new → AreMade (is_some stop) lines left new.store.history
+        made_by : (stop : Option Stop) (given : Answer) → call_made (action.Issue call) given ≡ Some call → Goes (entered stop (entry_of (Caller d) (action.Issue call) given)) old.system new → AreMade (lacks stop) lines left new.store.history
         made_by None given is goes = made_next false given is goes.leads.entries
-        made_by (Some stop.Disk) given is goes = made_next true given is goes.leads.entries
+        made_by (Some stop.Disk) given is goes = made_next false given is goes.leads.entries
         made_by (Some stop.Memory) given is goes = made_lost (goes.leads.entries ∙ append-nil old.system.store.history)
 
         pub lies_issued : (result : Result (Unit {0}) Stop) (stop : Option Stop) → ready old.system.store d ≡ Idle → IsDone g (Caller d) (action.Issue call) result old.system new → stop ≡ stop_of result → Lies (record { system = new; lists = left; stop = stop })
         lies_issued result stop idle done is =
             let made = is_made call result idle done in
             event_lies (action.Issue call) tt result left stop done made is
-            (subst (λ (o : Option Stop). AreMade (is_some o) lines left new.store.history) (sym is) (made_by (stop_of result) done.given made (event_deeds g (Caller d) (action.Issue call) tt old.system new (works_still on) result done)))
+            (subst (λ (o : Option Stop). AreMade (lacks o) lines left new.store.history) (sym is) (made_by (stop_of result) done.given made (event_deeds g (Caller d) (action.Issue call) tt old.system new (works_still on) result done)))
 
       -- ---- a caller's access that goes on
 
@@ -247,4 +279,4 @@ module _ {D : Type 0} (opened_as : Option (FileStore D)) (limits : Numbers) (lin
       lies_resumed result stop done is =
           let goes = event_deeds g (Caller d) action.Resume tt old.system new (works_still on) result done in
           event_lies action.Resume tt result old.lists stop done tt is
-          (still_made lines old.lists old.system.store.history new.store.history false (is_some stop) (made_now on) (λ c. resumed_calls c (stop_of result) done.given goes) (λ goes_on. refl))
+          (still_made lines old.lists old.system.store.history new.store.history false (lacks stop) (made_now on) (λ c. resumed_calls c (stop_of result) done.given goes) (λ goes_on. refl))

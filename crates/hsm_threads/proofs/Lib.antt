@@ -1,8 +1,10 @@
 pub mod Callers
-pub mod Going
 pub mod Holding
 pub mod Issuing
 pub mod Keeping
+pub mod Lacking
 pub mod Numbering
 pub mod Replies
+pub mod RunDeeds
+pub mod Sending
 pub mod Stepping

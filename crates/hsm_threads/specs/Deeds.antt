@@ -34,12 +34,19 @@ IsOfRun (Loses daemon) = Unit {0}
 IsOfRun (Kills daemon) = ⊥
 IsOfRun Refreshes = ⊥
 
--- The history is that of deeds by which its daemons are served.
-pub record WasRun (limits : Numbers) (history : List Entry) : Type 0 where
+-- a daemon loses nothing that it was to hear
+abbrev pub LosesNothing : Deed → Type 0
+LosesNothing (Breaks daemon sid call) = ⊥
+LosesNothing (Loses daemon) = ⊥
+LosesNothing deed = Unit {0}
+
+-- The history is that of deeds by which its daemons are served. Only a run that has stopped has lost what a daemon was to hear.
+pub record WasRun (limits : Numbers) (stop : Option Stop) (history : List Entry) : Type 0 where
   pub deeds : List Deed
   pub entries : entries_of deeds ≡ history
   pub served : Served recalls (migrates limits) deeds
   pub of_run : All IsOfRun deeds
+  pub heard : stop ≡ None → All LosesNothing deeds
 
 -- ---- one call
 

@@ -1,5 +1,5 @@
 -- What lies under the lock of a run, and what each call leaves of it.
-use Rattle.std.specs.Prelude.{ℕ, ◌≡◌, ◌≢◌, Bool, true, false, List, [], ◌∷◌, All, Option, None, Some, is_some, Result, IfOk}
+use Rattle.std.specs.Prelude.{ℕ, ◌≡◌, ◌≢◌, Bool, true, false, List, [], ◌∷◌, All, Option, None, Some, Result}
 use Rattle.disk_model.specs.declared.device.Disk as disk
 use Rattle.hsm_types.specs.declared.calls.Call.{Call}
 use Rattle.hsm_types.specs.declared.daemons.Act.{Act}
@@ -22,8 +22,8 @@ use Rattle.hsm_system.specs.declared.awaited.Outcome.{Outcome}
 use Rattle.hsm_system.specs.declared.events.Event.{Event}
 use Rattle.hsm_system.specs.declared.events.Event.TheVariants as event
 use Rattle.hsm_system.specs.declared.stops.Stop.{Stop}
-use Rattle.hsm_threads.specs.Deeds.{IsOfRun, entered}
-use Rattle.hsm_threads.specs.Steps.{CameTo, IsStepOf, closes, stop_of, told_of}
+use Rattle.hsm_threads.specs.Deeds.{IsOfRun, LosesNothing, entered}
+use Rattle.hsm_threads.specs.Steps.{CameTo, IsStepOf, closes, lacks, stop_of, told_of}
 use Rattle.hsm_threads.specs.declared.run.Next.{Next}
 use Rattle.hsm_threads.specs.declared.run.Next.TheVariants as next
 use Rattle.hsm_threads.specs.declared.steps.Asked.{Asked}
@@ -36,15 +36,17 @@ pub record Lot (D : Type 0) : Type 0 where
   pub stop : Option Stop
 
 -- The store was opened so, and all that was done since is done by these deeds of daemons and callers. It works, unless a fault of the disk has stopped the
--- run. Each caller has made its lines up to a place.
+-- run; and no daemon has lost what it was to hear, unless the run has stopped. Each caller has made its lines up to a place, and only want of memory has lost a
+-- call.
 pub record IsLot {D : Type 0} (opened_as : Option (FileStore D)) (limits : Numbers) (lines : ℕ → List Call) (l : Lot D) : Type 0 where
   pub opened : opened_as ≡ Some l.system.store.opened
   pub settings : l.system.limits ≡ limits
   pub deeds : List Deed
   pub holds : Holds deeds l.system
   pub of_run : All IsOfRun deeds
+  pub heard : l.stop ≡ None → All LosesNothing deeds
   pub closed : l.system.store.files.failed ≡ closes l.stop
-  pub made : AreMade (is_some l.stop) lines l.lists l.system.store.history
+  pub made : AreMade (lacks l.stop) lines l.lists l.system.store.history
 
 -- ---- a caller's step
 
@@ -93,13 +95,13 @@ LeavesOthers c old new = (other : ℕ) → other ≢ c → left_of new.lists oth
 
 -- ---- a daemon's step
 
-module _ {D : Type 0} (daemon : Daemon) where
+module _ {D : Type 0} (g : disk.Ghosts D) (daemon : Daemon) where
   -- It was taken, by its deeds. The run has stopped exactly where these say so.
-  pub record Takes (came : Asked) (old new : Lot D) : Type 0 where
+  pub record Takes (asked : Asked) (old new : Lot D) : Type 0 where
     pub result : Result Asked Stop
-    pub told : came ≡ told_of result
+    pub told : asked ≡ told_of result
     pub deeds : GoesBy (IsStepOf daemon result) old.system new.system
-    pub left : IfOk result (λ given. CameTo daemon given old.system new.system)
+    pub came : CameTo g daemon result old.system new.system
     pub stop : new.stop ≡ stop_of result
     pub lists : new.lists ≡ old.lists
 
@@ -111,8 +113,9 @@ module _ {D : Type 0} (daemon : Daemon) where
   abbrev pub TakesStep : Asked → Lot D → Lot D → Type 0
   TakesStep came old new = TakesBy old.stop came old new
 
-  -- ---- what came of an act
+-- ---- what came of an act
 
+module _ {D : Type 0} (daemon : Daemon) where
   -- it hears that of the act that it waits for; or it isn't told, and nothing is done
   abbrev pub Tells : Outcome → Bool → Lot D → Lot D → Type 0
   Tells outcome true old new =

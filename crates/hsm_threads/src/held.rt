@@ -1,5 +1,5 @@
 //! What lies under the lock of a shared store.
-ghost use Rattle.std.specs.Prelude.{◌≡◌, [], false, Some};
+ghost use Rattle.std.specs.Prelude.{◌≡◌, [], Some};
 ghost use Rattle.hsm_core.specs.Kept.{IsKept};
 ghost use Rattle.hsm_core.specs.Ready.{ready};
 ghost use Rattle.plain_model.specs.declared.entries.Action.TheVariants as action;
@@ -36,7 +36,6 @@ impl<D: Disk, N: Named<D>> Held<D, N> {
     pub(crate) fn new(hsm: Hsm<D>) -> Held<D, N>
         requires named { N.opened ≡ Some hsm.opened }
         requires empty { hsm.history ≡ [] }
-        requires works { hsm.files.failed ≡ false }
         ensures { result ≡ hsm }
     {
         Held {
@@ -59,6 +58,7 @@ impl<D: Disk, N: Named<D>> Held<D, N> {
     pub(crate) fn issue(&mut self, alloc: Global, caller: CallerId, call: Call) -> Reply
         ensures { IsEvent D.Disk N.opened (Caller caller) (action.Issue call) (answer.Call result) self.old self.new }
     {
+        let _ = self.hsm.history();
         let reply = self.hsm.issue(alloc, caller, call);
         let _ = self.hsm.history();
         reply
@@ -68,6 +68,7 @@ impl<D: Disk, N: Named<D>> Held<D, N> {
     pub(crate) fn resume(&mut self, alloc: Global, caller: CallerId) -> Reply
         ensures { IsEvent D.Disk N.opened (Caller caller) action.Resume (answer.Call result) self.old self.new }
     {
+        let _ = self.hsm.history();
         let reply = self.hsm.resume(alloc, caller);
         let _ = self.hsm.history();
         reply
@@ -77,6 +78,7 @@ impl<D: Disk, N: Named<D>> Held<D, N> {
     pub(crate) fn dm(&mut self, alloc: Global, sid: Sid, call: DmCall) -> DmReply
         ensures { IsEvent D.Disk N.opened (Session sid) (action.Dm call) (answer.Dm result) self.old self.new }
     {
+        let _ = self.hsm.history();
         let reply = self.hsm.dm(alloc, sid, call);
         let _ = self.hsm.history();
         reply

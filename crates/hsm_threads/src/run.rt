@@ -1,5 +1,5 @@
 //! What lies under the lock of a run.
-ghost use Rattle.std.specs.Prelude.{◌≡◌, ◌↔◌, [], ◌∷◌, ℕ, false, IsTrue, None, Some, is_some};
+ghost use Rattle.std.specs.Prelude.{◌≡◌, ◌↔◌, [], ◌∷◌, ℕ, IsTrue, None, Some};
 ghost use Rattle.std.specs.Option.{option_or};
 ghost use Rattle.hsm_types.specs.declared.daemons.Heard.TheVariants.{Nothing};
 ghost use Rattle.hsm_core.specs.Kept.{IsKept};
@@ -13,7 +13,7 @@ ghost use Rattle.hsm_system.specs.Goes.{Goes, GoesBy, LosesOf};
 ghost use Rattle.hsm_system.specs.Systems.{IsAwaited, Waits, hearing, started};
 ghost use Rattle.hsm_threads.specs.Deeds.{WasRun};
 ghost use Rattle.hsm_threads.specs.Lots.{Issues, LeavesOthers, Resumes, TakesStep, Tells, next_by};
-ghost use Rattle.hsm_threads.specs.Steps.{closes, stop_of};
+ghost use Rattle.hsm_threads.specs.Steps.{closes, lacks, stop_of};
 
 use crate::named::Named;
 use crate::steps::{Asked, take_step};
@@ -65,9 +65,9 @@ impl<D: Disk, N: Named<D>> Run<D, N> {
         requires limits { settings ≡ N.limits }
         requires lines { (c : ℕ) → left_of lists c ≡ N.lines c }
         requires empty { hsm.history ≡ [] }
-        requires works { hsm.files.failed ≡ false }
         ensures { result ≡ record { system = record { store = hsm; limits = settings; recall = None; migrate = None }; lists = lists; stop = None } }
     {
+        let _ = hsm.history();
         Run {
             system: System::new(hsm, settings),
             lists,
@@ -80,9 +80,9 @@ impl<D: Disk, N: Named<D>> Run<D, N> {
     pub fn close(self) -> (Hsm<D>, CallLists, Option<Stop>)
         ensures opened { N.opened ≡ Some result.0.opened }
         ensures kept { IsKept D.Disk result.0 }
-        ensures served { WasRun N.limits result.0.history }
+        ensures served { WasRun N.limits result.2 result.0.history }
         ensures closed { result.0.files.failed ≡ closes result.2 }
-        ensures made { AreMade (is_some result.2) N.lines result.1 result.0.history }
+        ensures made { AreMade (lacks result.2) N.lines result.1 result.0.history }
         ensures same { (result.0 ≡ self.system.store) × (result.1 ≡ self.lists) × (result.2 ≡ self.stop) }
     {
         let _ = self.system.history();
@@ -163,7 +163,7 @@ impl<D: Disk, N: Named<D>> Run<D, N> {
     /// Asks the daemon what it does next. Its call is made at once, as one event. What it is to copy or to fetch is given, to be performed with the lock free
     /// and told; until then it is asked in vain. Where memory is wanting, or the disk fails, the run has stopped. One that has stays as it is.
     pub fn ask(&mut self, alloc: Global, daemon: Daemon) -> Asked
-        ensures { TakesStep daemon result self.old self.new }
+        ensures { TakesStep D.Disk daemon result self.old self.new }
     {
         if self.stop.is_some() {
             return Asked::Nothing;

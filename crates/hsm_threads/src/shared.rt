@@ -41,7 +41,6 @@ impl<D: Disk, N: Named<D>> Shared<D, N> {
     ) -> Result<(Shared<D, N>, Vec<Pass>), (AllocError, Hsm<D>)>
         requires named { N.opened ≡ Some hsm.opened }
         requires empty { hsm.history ≡ [] }
-        requires works { hsm.files.failed ≡ false }
         requires callers { callers ≤ most_callers }
         requires some { 1 ≤ callers + others }
         requires most { callers + others ≤ 1024 }

@@ -1,10 +1,10 @@
 //! A daemon's step under the lock of a run.
-ghost use Rattle.std.specs.Prelude.{◌≡◌, ◌∷◌, false, IfOk};
+ghost use Rattle.std.specs.Prelude.{◌≡◌, ◌∷◌, false};
 ghost use Rattle.hsm_types.specs.Daemons.{MayPerform};
 ghost use Rattle.deeds.specs.Deeds.{Gives};
 ghost use Rattle.hsm_system.specs.Goes.{GoesBy};
 ghost use Rattle.hsm_system.specs.Systems.{Awaits};
-ghost use Rattle.hsm_threads.specs.Steps.{CameTo, IsStepOf, called_by, closes, stop_of};
+ghost use Rattle.hsm_threads.specs.Steps.{Begins, CameTo, IsStepOf, called_by, closes, stop_of};
 
 use disk_model::Disk;
 use hsm_system::{Outcome, Stop, System};
@@ -32,7 +32,7 @@ pub(crate) fn take_step<D: Disk>(
 ) -> Result<Asked, Stop>
     requires { system.old.store.files.failed ≡ false }
     ensures deeds { GoesBy (IsStepOf daemon result) system.old system.new }
-    ensures came { IfOk result (λ asked. CameTo daemon asked system.old system.new) }
+    ensures came { CameTo D.Disk daemon result system.old system.new }
     ensures opened { system.new.store.opened ≡ system.old.store.opened }
     ensures closed { system.new.store.files.failed ≡ closes (stop_of result) }
 {
@@ -54,7 +54,7 @@ fn begin<D: Disk>(
     requires awaits { Awaits daemon act system.old }
     requires may { MayPerform act }
     ensures deeds { GoesBy (λ rest. IsStepOf daemon result (Gives daemon act ∷ rest)) system.old system.new }
-    ensures came { IfOk result (λ asked. CameTo daemon asked system.old system.new) }
+    ensures begins { Begins D.Disk daemon act result system.old system.new }
     ensures opened { system.new.store.opened ≡ system.old.store.opened }
     ensures closed { system.new.store.files.failed ≡ closes (stop_of result) }
 {

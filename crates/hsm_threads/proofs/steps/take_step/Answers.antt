@@ -3,7 +3,8 @@ use Rattle.hsm_core.specs.Store.{Store}
 use Rattle.hsm_system.specs.Systems.{System}
 use Rattle.hsm_threads.specs.Steps.{IsStepOf}
 use Rattle.hsm_threads.specs.declared.steps.Asked.TheVariants.{Nothing}
-use Rattle.hsm_threads.proofs.Going.{begun_step, lacked_open, lacked_step, lacked_store, moved_store, nothing_done, step_came}
+use Rattle.hsm_threads.proofs.RunDeeds.{begun_step, lacked_open, lacked_step, lacked_store, moved_store, nothing_done}
+use Rattle.hsm_threads.proofs.Stepping.{begun_came, lacked_came}
 use Rattle.hsm_threads.proofs.steps.take_step.Goals as goal
 
 -- ---- it gives an act
@@ -21,7 +22,7 @@ pub returns-in-Ok-Some-clause-deeds : goal.returns-in-Ok-Some-clause-deeds
 returns-in-Ok-Some-clause-deeds g c = begun_step c.args.daemon c.args.system.now c.begin.new.system c.begin.result c.in-Ok-Some.act c.ask.new.self (rw c.in-Ok-Some.field-0-is at c.in-Ok-Some.ensures.deeds).0 c.begin.ensures.deeds
 
 pub returns-in-Ok-Some-clause-came : goal.returns-in-Ok-Some-clause-came
-returns-in-Ok-Some-clause-came g c = step_came c.args.daemon c.args.system.now c.begin.new.system c.in-Ok-Some.act c.ask.new.self c.begin.result c.begin.ensures.deeds c.begin.ensures.came
+returns-in-Ok-Some-clause-came g c = begun_came g.D.Disk c.args.daemon c.args.system.now c.begin.new.system c.begin.result (c.in-Ok-Some.act, c.ask.new.self, rw c.in-Ok-Some.field-0-is at c.in-Ok-Some.ensures.asked, c.begin.ensures.begins)
 
 pub returns-in-Ok-Some-clause-opened : goal.returns-in-Ok-Some-clause-opened
 returns-in-Ok-Some-clause-opened g c = c.begin.ensures.opened ∙ ap (λ (s : Store g.row.D.Denot). s.opened) (moved_store c.args.daemon c.args.system.now c.ask.new.self c.in-Ok-Some.act (rw c.in-Ok-Some.field-0-is at c.in-Ok-Some.ensures.asked))
@@ -44,6 +45,9 @@ returns-in-Ok-None-clause-closed g c = ap (λ (s : System g.row.D.Denot). s.stor
 
 pub returns-in-Err-clause-deeds : goal.returns-in-Err-clause-deeds
 returns-in-Err-clause-deeds g c = lacked_step c.args.daemon c.args.system.now c.ask.new.self c.in-Err.why c.in-Err.ensures.lacks.lacks c.in-Err.ensures.lost
+
+pub returns-in-Err-clause-came : goal.returns-in-Err-clause-came
+returns-in-Err-clause-came g c = lacked_came g.D.Disk c.args.daemon c.args.system.now c.ask.new.self c.in-Err.why c.in-Err.ensures.lacks
 
 pub returns-in-Err-clause-opened : goal.returns-in-Err-clause-opened
 returns-in-Err-clause-opened g c = ap (λ (s : Store g.row.D.Denot). s.opened) (lacked_store c.args.daemon c.args.system.now c.ask.new.self c.in-Err.why c.in-Err.ensures.lacks)

@@ -10,7 +10,8 @@ use Rattle.hsm_threads.proofs.held.Held.issue.Goals as goal
 pub returns : goal.returns
 returns g c =
     subst (λ (s : Store g.row.D.Denot). IsEvent g.D.Disk g.N.Named.opened (Caller c.args.caller) (action.Issue c.args.call) (answer.Call c.issue-reply.result) s c.issue-reply.new.self) c.self.view_is
-    (event_made g.N.Named.opened g.D.Disk (Caller c.args.caller) (action.Issue c.args.call) tt (answer.Call c.issue-reply.result) c.self.inside.hsm c.issue-reply.new.self c.self.invariant c.issue-reply.ensures.answered c.history.ensures.kept c.issue-reply.ensures.safe)
+    (event_made g.N.Named.opened g.D.Disk (Caller c.args.caller) (action.Issue c.args.call) tt (answer.Call c.issue-reply.result) c.self.inside.hsm c.issue-reply.new.self c.self.invariant
+    c.history.ensures.kept c.issue-reply.ensures.answered (λ lacks. tt) c.history-2.ensures.kept c.issue-reply.ensures.safe)
 
 pub invariant_of-self : goal.invariant_of-self
-invariant_of-self g c = held_more g.N.Named.opened g.D.Disk (Caller c.args.caller) (action.Issue c.args.call) tt (answer.Call c.issue-reply.result) c.self.inside.hsm c.issue-reply.new.self c.self.invariant c.issue-reply.ensures.answered c.history.ensures.kept
+invariant_of-self g c = held_more g.N.Named.opened g.D.Disk (Caller c.args.caller) (action.Issue c.args.call) tt (answer.Call c.issue-reply.result) c.self.inside.hsm c.issue-reply.new.self c.self.invariant c.issue-reply.ensures.answered

@@ -4,7 +4,7 @@ use Rattle.hsm_system.specs.declared.events.Event.TheVariants as event
 use Rattle.hsm_threads.specs.Lots.{Issues, Lot}
 use Rattle.hsm_threads.specs.declared.run.Next.TheVariants.{Ended, Waits}
 use Rattle.hsm_threads.proofs.Callers.{issues_none, issues_one, issues_stopped, issues_waiting, makes}
-use Rattle.hsm_threads.proofs.Going.{untold_by}
+use Rattle.hsm_threads.proofs.RunDeeds.{untold_by}
 use Rattle.hsm_threads.proofs.Keeping.{lies_ended, lies_issued, works_still}
 use Rattle.hsm_threads.proofs.run.Run.issue.Goals as goal
 

@@ -4,7 +4,7 @@ use Rattle.hsm_system.specs.declared.events.Event.TheVariants as event
 use Rattle.hsm_threads.specs.Lots.{Lot, Resumes, next_by}
 use Rattle.hsm_threads.specs.declared.run.Next.TheVariants.{Ended}
 use Rattle.hsm_threads.proofs.Callers.{makes, resumes_now, resumes_stopped, resumes_waiting}
-use Rattle.hsm_threads.proofs.Going.{untold_by}
+use Rattle.hsm_threads.proofs.RunDeeds.{untold_by}
 use Rattle.hsm_threads.proofs.Keeping.{lies_resumed, works_still}
 use Rattle.hsm_threads.proofs.run.Run.resume.Goals as goal
 

@@ -5,6 +5,3 @@ new-requires-clause-named g c = c.requires.named
 
 pub new-requires-clause-empty : goal.new-requires-clause-empty
 new-requires-clause-empty g c = c.requires.empty
-
-pub new-requires-clause-works : goal.new-requires-clause-works
-new-requires-clause-works g c = c.requires.works

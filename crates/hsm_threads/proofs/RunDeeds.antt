@@ -1,12 +1,11 @@
 -- Which deeds the calls of a run do, and what each leaves of its store.
-use Rattle.std.proofs.Common.{◌≡◌, ◌≢◌, ◌⊎◌, ◌∙◌, ◌∷◌, ◌++◌, [], Bool, true, false, List, Option, Some, None, option_map, Result, Ok, Err, OnOk, inl, inr}
+use Rattle.std.proofs.Common.{◌≡◌, ◌≢◌, ◌∙◌, ◌∷◌, ◌++◌, [], Bool, true, false, List, Option, Some, None, option_map, Result, Ok, Err, OnOk, inl, inr}
 use Rattle.std.proofs.Common.{refl, sym, ap, subst}
-use Rattle.std.specs.Prelude.{◌↔◌, IfErr, IfOk, IfSome, IsTrue, is_some}
+use Rattle.std.specs.Prelude.{◌↔◌, IfErr, IfSome, IsTrue, is_some}
 use Rattle.std.specs.Option.{option_or}
 use Rattle.std.proofs.lemmas.List.Elements.{All-from_recursion}
 use Rattle.disk_model.specs.Moments.{Tells}
 use Rattle.disk_model.specs.declared.device.Disk as disk
-use Rattle.hsm_types.specs.Daemons.{MayPerform}
 use Rattle.hsm_types.specs.declared.daemons.Act.{Act}
 use Rattle.hsm_types.specs.declared.daemons.Act.TheVariants as act
 use Rattle.hsm_types.specs.declared.daemons.Daemon.{Daemon}
@@ -36,7 +35,6 @@ use Rattle.hsm_system.specs.Stops.{stop_answer}
 use Rattle.hsm_system.specs.Systems.{System, Awaits, IsAwaited, Rests, hearing, started}
 use Rattle.hsm_system.specs.declared.awaited.Awaited.{Awaited}
 use Rattle.hsm_system.specs.declared.awaited.Outcome.{Outcome}
-use Rattle.hsm_system.specs.declared.daemons.Next.{Next}
 use Rattle.hsm_system.specs.declared.daemons.Running.{Running}
 use Rattle.hsm_system.specs.declared.stops.Stop.{Stop}
 use Rattle.hsm_system.specs.declared.stops.Stop.TheVariants as stop
@@ -45,7 +43,7 @@ use Rattle.hsm_system.proofs.Leading.{done_enters, goes_itself, goes_then, heard
 use Rattle.hsm_replay.specs.Stopped.{IsOnDrive}
 use Rattle.hsm_threads.specs.Deeds.{entered}
 use Rattle.hsm_threads.specs.Lots.{Lot, Tells as TellsOutcome}
-use Rattle.hsm_threads.specs.Steps.{CameTo, IsStepOf, called_by, closes, stop_of}
+use Rattle.hsm_threads.specs.Steps.{IsStepOf, called_by, closes, lacks, stop_of}
 use Rattle.hsm_threads.specs.declared.steps.Asked.{Asked}
 use Rattle.hsm_threads.specs.declared.steps.Asked.TheVariants as asked
 
@@ -132,18 +130,6 @@ module _ {D : Type 0} (daemon : Daemon) (old new : System D) where
   pub begun_step : (result : Result Asked Stop) (given : Act) (mid : System D) → Goes (Gives daemon given ∷ []) old mid → GoesBy (λ (rest : List Deed). IsStepOf daemon result (Gives daemon given ∷ rest)) mid new → GoesBy (IsStepOf daemon result) old new
   begun_step result given mid first then = (Gives daemon given ∷ then.0, then.1, goes_then (Gives daemon given ∷ []) then.0 old mid new first then.2)
 
-  -- where it gave an act it came to something
-  begun_came : (given : Act) (mid : System D) (came : Asked) (rest : List Deed) → IsStepOf daemon (Ok came) (Gives daemon given ∷ rest) → CameTo daemon came mid new → CameTo daemon came old new
-  begun_came given mid asked.Called rest is left = left
-  begun_came given mid (asked.Performs act) rest is left = left
-  begun_came given mid asked.Rests rest is left = left
-  begun_came given mid asked.Nothing rest is left = let wrong : Gives daemon given ∷ rest ≡ [] = is in cc wrong
-
-  pub step_came : (given : Act) (mid : System D) (result : Result Asked Stop) → GoesBy (λ (rest : List Deed). IsStepOf daemon result (Gives daemon given ∷ rest)) mid new → IfOk result (λ came. CameTo daemon came mid new)
-      → IfOk result (λ came. CameTo daemon came old new)
-  step_came given mid (Ok came) goes left = begun_came given mid came goes.0 goes.1 left
-  step_came given mid (Err why) goes left = tt
-
 -- ---- what they leave of the store
 
 pub started_store : {D : Type 0} (daemon : Daemon) (old new : System D) → new ≡ started daemon old → new.store ≡ old.store
@@ -194,9 +180,13 @@ lacked_closed None = refl
 lacked_closed (Some stop.Disk) = refl
 lacked_closed (Some stop.Memory) = refl
 
-pub lacked_stop : (why : Option Stop) → is_some (option_or why (Some stop.Memory)) ≡ false → is_some why ≡ false
-lacked_stop None is = let wrong : true ≡ false = is in cc wrong
-lacked_stop (Some why) is = is
+pub lacked_lacks : (why : Option Stop) → lacks (option_or why (Some stop.Memory)) ≡ false → lacks why ≡ false
+lacked_lacks None is = refl
+lacked_lacks (Some why) is = is
+
+pub lacked_stop : (why : Option Stop) → option_or why (Some stop.Memory) ≡ None → ⊥
+lacked_stop None is = let wrong : Some stop.Memory ≡ None = is in cc wrong
+lacked_stop (Some why) is = let wrong : Some why ≡ None = is in cc wrong
 
 -- ---- what a daemon came to
 
@@ -227,10 +217,6 @@ module _ {D : Type 0} where
   pub rests_on : (daemon : Daemon) (old new : System D) (taken : Bool) → Awaits daemon act.Idle old → (taken ≡ true → new ≡ hearing daemon Nothing old) → (taken ≡ false → new ≡ old) → Rests daemon new
   rests_on daemon old new true awaits hears same = subst (λ (s : System D). Rests daemon s) (sym (hears refl)) (rests_hearing daemon old Nothing (rests_now daemon old awaits))
   rests_on daemon old new false awaits hears same = subst (λ (s : System D). Rests daemon s) (sym (same refl)) (rests_now daemon old awaits)
-
-  pub called_came : (daemon : Daemon) (result : Result (Unit {0}) Stop) (old new : System D) → IfOk (called_by result) (λ came. CameTo daemon came old new)
-  called_came daemon (Ok x) old new = tt
-  called_came daemon (Err why) old new = tt
 
 pub called_stop : (result : Result (Unit {0}) Stop) → stop_of (called_by result) ≡ stop_of result
 called_stop (Ok x) = refl
