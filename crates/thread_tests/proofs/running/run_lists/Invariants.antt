@@ -1,0 +1,6 @@
+use Rattle.std.proofs.Common.{Some}
+use Rattle.call_lists.specs.Lines.{left_of}
+use Rattle.thread_tests.proofs.running.run_lists.Given as goal
+
+abbrev pub ghosts-run_named : goal.ghosts-run_named
+ghosts-run_named g a = record { opened = Some a.hsm.opened; limits = a.settings; lines = left_of a.lists }
