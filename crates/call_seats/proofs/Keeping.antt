@@ -44,6 +44,11 @@ fits_note holder giver count all seen seat right pre whole = record {
   number = λ e. absurd (off e);
 }
 
+-- a view that stays as it is fits under another holder of the right as far as its own right does
+fits_under : (old holder giver count : ℕ) (all : List Mark) (seat : ℕ) (v : View) → Fits old giver count all seat v → (v.right ≡ true → (seat ≡ holder) × (v.seen ≡ all)) → Fits holder giver count all seat v
+fits_under old holder giver count all seat v f right =
+    record { seen = f.seen; one = f.one; two = f.two; one_whole = f.one_whole; two_whole = f.two_whole; right = right; gives = f.gives; made = f.made; number = f.number }
+
 -- the right stays where it is, where another view is set
 right_else : (views : List View) (holder id : ℕ) (w : View) → HasRight views holder → holder ≢ id → HasRight (set views id w) holder
 right_else views holder id w h ne = (h.0, set_else views id holder w ne ∙ h.1, h.2)
@@ -132,7 +137,7 @@ noted words views id v kept at holder has others new =
       right = has;
       fits = all_snoc (Fits holder kept.giver kept.count kept.all) (set views id (without_right v)) (note_of v)
           (all_set (Fits holder kept.giver kept.count kept.all) views id (without_right v)
-          (λ j u ne e. let f = kept.fits j u e in record { seen = f.seen; one = f.one; two = f.two; one_whole = f.one_whole; two_whole = f.two_whole; right = others j u ne e; gives = f.gives; made = f.made; number = f.number })
+          (λ j u ne e. fits_under kept.holder holder kept.giver kept.count kept.all j u (kept.fits j u e) (others j u ne e))
           (record { seen = mine.seen; one = mine.one; two = mine.two; one_whole = mine.one_whole; two_whole = mine.two_whole; right = λ e. absurd (off e); gives = mine.gives; made = mine.made; number = mine.number }))
           (fits_note holder kept.giver kept.count kept.all v.seen (length (set views id (without_right v))) v.right mine.seen (λ r. (length-set views id (without_right v) ∙ new r, (mine.right r).1)));
       apart = apart_snoc (set views id (without_right v)) (note_of v) (apart_set views id v (without_right v) at (λ n. (n, refl)) kept.apart) (λ e. absurd (off e));
@@ -180,7 +185,7 @@ module _ (words : List ℕ) (views : List View) (id : ℕ) (v : View) (other : �
         right = has;
         fits = all_set (Fits holder kept.giver kept.count kept.all) (set views id (joined v w)) other spent
             (λ j u no here. all_set (λ j u. j ≢ other → Fits holder kept.giver kept.count kept.all j u) views id (joined v w)
-            (λ j u ne e not. let f = kept.fits j u e in record { seen = f.seen; one = f.one; two = f.two; one_whole = f.one_whole; two_whole = f.two_whole; right = others j u ne not e; gives = f.gives; made = f.made; number = f.number })
+            (λ j u ne e not. fits_under kept.holder holder kept.giver kept.count kept.all j u (kept.fits j u e) (others j u ne not e))
             (λ _. record {
               seen = longer_prefix v.seen w.seen kept.all mine.seen theirs.seen;
               one = mine.seen;

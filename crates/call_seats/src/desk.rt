@@ -147,7 +147,7 @@ impl Desk {
                 number: _,
                 seat: ended,
             } = pass;
-            steps::end(&self.table, &mut whole, ended);
+            steps::join(&self.table, &mut whole, ended);
             steps::look(&self.table, &mut whole);
         }
     }

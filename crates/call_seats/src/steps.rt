@@ -1,9 +1,9 @@
-//! The seven kinds of atomic steps, one function each. Word 0 of the table is the number of published entries.
+//! The seven kinds of atomic steps, of which two are one function. Word 0 of the table is the number of published entries.
 ghost use Rattle.std.specs.Prelude.{◌≡◌, ◌-◌, ◌<◌, ◌^◌, [], length, true, IfOk};
 ghost use Rattle.call_seats.specs.Views.{first_view, dealing, dealt, without_right, note_of, joined, informed, answered, appended, Tells, Owns};
 ghost use Rattle.call_seats.specs.Seated.{IsAt};
 
-use crate::views::{Append, Deal, Ended, Look, Note, OneList, Published, View};
+use crate::views::{Append, Deal, Look, Note, OneList, Published, Told, View};
 use atomic_table::{Seat, Table};
 use plain_model::Entry;
 use std::alloc::{AllocError, Global};
@@ -44,14 +44,14 @@ pub(crate) fn note(table: &Counter, from: &mut Holder) -> Holder
     table.shared.split_seat::<Note>(from)
 }
 
-/// 4: a pass takes a note in.
-pub(crate) fn join(table: &Counter, into: &mut Holder, note: Holder)
-    requires at { IsAt into.old table.now.shared.table_id × IsAt note table.now.shared.table_id }
-    requires empty { note.me.1 ≡ [] }
+/// 4 and 7: a pass takes in a note, or a pass that has ended.
+pub(crate) fn join(table: &Counter, into: &mut Holder, other: Holder)
+    requires at { IsAt into.old table.now.shared.table_id × IsAt other table.now.shared.table_id }
+    requires empty { other.me.1 ≡ [] }
     ensures at { IsAt into.new table.now.shared.table_id }
-    ensures joined { into.new.me ≡ (joined into.old.me.0 note.me.0, into.old.me.1) }
+    ensures joined { into.new.me ≡ (joined into.old.me.0 other.me.0, into.old.me.1) }
 {
-    table.shared.join_seat::<Note>(into, note);
+    table.shared.join_seat::<Told>(into, other);
 }
 
 /// 5: a pass looks, which tells how the lists that were joined in it lie, and that it has seen of its own entries just those that it made.
@@ -88,16 +88,6 @@ fn append_named<E: Published>(table: &Counter, pass: &mut Holder, entry: &Entry)
     ensures appended { pass.new.me ≡ (appended pass.old.me.0 entry.now, pass.old.me.1) }
 {
     table.shared.fetch_add::<Append<E>>(pass, 0, 1);
-}
-
-/// 7: a pass takes in one that has ended.
-pub(crate) fn end(table: &Counter, into: &mut Holder, pass: Holder)
-    requires at { IsAt into.old table.now.shared.table_id × IsAt pass table.now.shared.table_id }
-    requires empty { pass.me.1 ≡ [] }
-    ensures at { IsAt into.new table.now.shared.table_id }
-    ensures joined { into.new.me ≡ (joined into.old.me.0 pass.me.0, into.old.me.1) }
-{
-    table.shared.join_seat::<Ended>(into, pass);
 }
 
 /// Two passes tell each other what they have seen: a note of the first goes to the second, which looks, and a note of all that goes back.

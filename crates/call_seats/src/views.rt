@@ -64,18 +64,10 @@ impl Split<View> for Note {
     ghost right = { note_of };
 }
 
-impl Join<View> for Note {
-    ghost use Rattle.call_seats.specs.Views.{joined, spent};
+/// What a note or a pass that has ended tells to who takes it in.
+pub struct Told;
 
-    ghost both = { joined };
-
-    ghost spent = { spent };
-}
-
-/// A pass that has ended.
-pub struct Ended;
-
-impl Join<View> for Ended {
+impl Join<View> for Told {
     ghost use Rattle.call_seats.specs.Views.{joined, spent};
 
     ghost both = { joined };

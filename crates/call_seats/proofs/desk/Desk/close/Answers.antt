@@ -9,8 +9,8 @@ use Rattle.call_seats.proofs.desk.Desk.close.Goals as goal
 pub loop-pass-init : goal.loop-pass-init
 loop-pass-init c = search (rules, whole_first, begun_first, same_first)
 
-pub end-requires-clause-at : goal.end-requires-clause-at
-end-requires-clause-at c =
+pub join-requires-clause-at : goal.join-requires-clause-at
+join-requires-clause-at c =
     let so_far = c.loop-pass.invariant in
     let at = so_far.at in
     (at, ended_at _ c.in-Some-pass.pass _ (into_iter_items c.next.new.self) so_far.same c.in-Some-pass.ensures.steps.0 c.pass.inside.seat c.pass.view_is at.word)
@@ -22,12 +22,12 @@ loop-pass-preserved c =
     let pen = c.args.pen.pass in
     let v = c.loop-pass.whole.me.0 in
     let w = c.pass.inside.seat.me.0 in
-    let told : Tells (joined v w) = subst (λ (m : Me (Unit {0}) View). Tells m.0) c.end.ensures.joined c.look.ensures.tells in
+    let told : Tells (joined v w) = subst (λ (m : Me (Unit {0}) View). Tells m.0) c.join.ensures.joined c.look.ensures.tells in
     record {
       left = omega (arith, so_far.left, next.1, ap length next.0);
       at = c.look.ensures.at;
       same = same_rest _ c.in-Some-pass.pass _ (into_iter_items c.next.new.self) so_far.same next.0;
-      whole = subst (λ (m : Me (Unit {0}) View). IsWhole pen m.0) (sym (c.look.ensures.me ∙ c.end.ensures.joined)) (still_whole pen v w so_far.whole told);
+      whole = subst (λ (m : Me (Unit {0}) View). IsWhole pen m.0) (sym (c.look.ensures.me ∙ c.join.ensures.joined)) (still_whole pen v w so_far.whole told);
       begun = one_more pen v w so_far.whole told c.args.passes _ (into_iter_items c.next.new.self) c.in-Some-pass.pass _ so_far.begun next.0 c.pass.view_is;
     }
 

@@ -1,0 +1,5 @@
+//! Tests of passes in two threads.
+#![tactic(auto)]
+
+#[cfg(test)]
+mod meeting;
