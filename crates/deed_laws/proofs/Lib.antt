@@ -10,3 +10,7 @@ mod Causing
 pub mod UnknownTokens
 mod Seats
 mod KeepingAll
+mod OneWay
+mod Beginning
+mod FitActs
+mod Passing

@@ -134,6 +134,15 @@ pub recall_asked : (m : recall.Machine) → recall_sits.IsSo m → (x : Sid) (c 
 unfolding recall_sits
 recall_asked m so = so
 
+-- its seats are those of what it knows
+pub recall_seat : (m : recall.Machine) → recall_sits.seat m ≡ m.known.seat
+unfolding recall_sits
+recall_seat m = refl
+
+pub recall_heard : (m : recall.Machine) (told : Heard) → recall_sits.told m told ≡ (recalls.knows_by m.known m.asked told).seat
+unfolding recall_sits
+recall_heard m told = refl
+
 pub recall_known : IsKnown lives.recalls (λ (m : recall.Machine). m.known) recall_knows
 recall_known = record { first = refl; again = λ m. refl; goes = λ old told asked new goes. goes.known }
 
@@ -230,6 +239,14 @@ migrate_sits limits = record {
   answered = migrate_answered;
   unanswered = λ m h none. migrate_unanswered m.limits m.known m.asked h none;
 }
+
+pub migrate_seat : (limits : Numbers) (m : migrate.Machine) → (migrate_sits limits).seat m ≡ m.known.seat
+unfolding migrate_sits
+migrate_seat limits m = refl
+
+pub migrate_heard : (limits : Numbers) (m : migrate.Machine) (told : Heard) → (migrate_sits limits).told m told ≡ (migrates.knows_by m.limits m.known m.asked told).seat
+unfolding migrate_sits
+migrate_heard limits m told = refl
 
 abbrev counted : migrate.Machine → Counted
 counted m = record { limits = m.limits; known = m.known }

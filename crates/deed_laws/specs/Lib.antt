@@ -3,3 +3,5 @@ pub mod Telling
 pub mod DaemonSessions
 pub mod Caused
 pub mod Keeping
+pub mod Beginning
+pub mod Passes

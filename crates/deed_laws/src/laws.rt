@@ -7,9 +7,11 @@ ghost use Rattle.hsm_types.specs.declared.stores.Superblock.{Superblock};
 ghost use Rattle.plain_model.specs.State.{Held};
 ghost use Rattle.hsm_policy.specs.Settings.{Numbers};
 ghost use Rattle.deeds.specs.Deeds.{Deed};
+ghost use Rattle.deed_laws.specs.Beginning.{ServedBeginsRight};
 ghost use Rattle.deed_laws.specs.Caused.{ServedIsCaused};
 ghost use Rattle.deed_laws.specs.DaemonSessions.{ServedMakesAnew, ServedTakesOver};
 ghost use Rattle.deed_laws.specs.Keeping.{ServedKeepsAll, LosesNoAnswer};
+ghost use Rattle.deed_laws.specs.Passes.{ServedPasses};
 ghost use Rattle.deed_laws.specs.Telling.{ServedTellsOne};
 
 /// The message of a token is the one that told of the event that a daemon keeps, and of the file that recall was given for it.
@@ -26,6 +28,16 @@ pub fn makes_anew()
 /// A daemon takes the place of a session only where it was told, since it last asked for all of them, that this one has its information.
 pub fn takes_over()
     ensures { (limits : Numbers) (deeds : List Deed) → ServedTakesOver limits deeds }
+{}
+
+/// The first act of a daemon asks for all sessions, and so does its next where its session is gone. It begins anew only so, or where it knows of no session.
+pub fn begins_right()
+    ensures { (limits : Numbers) (deeds : List Deed) → ServedBeginsRight limits deeds }
+{}
+
+/// Each act of a pass is one for the picks of its table, and a pass that is over has done with them.
+pub fn all_passed()
+    ensures { (limits : Numbers) (deeds : List Deed) → ServedPasses limits deeds }
 {}
 
 /// A daemon with a session keeps each event of its kinds that is outstanding to that session, but for those that lines took, and those of answers that are

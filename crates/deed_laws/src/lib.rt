@@ -3,4 +3,7 @@
 
 mod laws;
 
-pub use laws::{is_caused, keeps_all, loses_no_answer, makes_anew, takes_over, tells_one};
+pub use laws::{
+    all_passed, begins_right, is_caused, keeps_all, loses_no_answer, makes_anew, takes_over,
+    tells_one,
+};
