@@ -37,6 +37,7 @@ exchange asked told = record { asked = asked; heard = told }
 abbrev pub table_told : Sid → Table → Exchange
 table_told sid table = exchange (Dm sid GetTable) (heard.Dm (reply.Table table))
 
+-- from a table on, one more with what is heard of each act
 abbrev pub exchanges : Knowing (List Exchange)
 exchanges = record { first = []; again = λ talk. talk; hears = told_since; asks = λ talk act. talk }
 
@@ -48,6 +49,7 @@ talk_behind deeds = unwrap_or (option_map (known_now exchanges) (stands exchange
 abbrev pub IsPassOn : Sid → Table → List Exchange → Type 0
 IsPassOn sid table talk = (during : List Exchange) × (talk ≡ table_told sid table ∷ during) × All (λ (x : Exchange). IsOfPass x.asked) during
 
+-- it is the last of them
 abbrev pub EndsWith : List Exchange → Exchange → Type 0
 EndsWith talk x = (first : List Exchange) × (talk ≡ first ++ x ∷ [])
 

@@ -4,7 +4,9 @@ use Rattle.std.proofs.lemmas.List.{map-append}
 use Rattle.disk_model.specs.declared.device.Disk as disk
 use Rattle.disk_model.specs.Moments.{Tells}
 use Rattle.hsm_types.specs.declared.daemons.Daemon.{Daemon}
+use Rattle.hsm_types.specs.declared.keys.Sid.{Sid}
 use Rattle.hsm_types.specs.declared.stores.Superblock.{Superblock}
+use Rattle.hsm_types.specs.declared.tables.Table.{Table}
 use Rattle.plain_model.specs.declared.entries.Entry.{Entry}
 use Rattle.plain_model.specs.State.{Held, just_opened}
 use Rattle.plain_model.specs.Laws.{IsRunSeen}
@@ -18,22 +20,46 @@ use Rattle.hsm_core.proofs.Packing.{packed_first}
 use Rattle.hsm_policy.specs.Settings.{Numbers, standard}
 use Rattle.deeds.specs.Deeds.{Deed, entries_of}
 use Rattle.deeds.specs.Leads as leading
+use Rattle.deed_laws.specs.Beginning.{BeginsRight, ServedBeginsRight}
 use Rattle.deed_laws.specs.DaemonSessions.{ServedMakesAnew, ServedTakesOver}
+use Rattle.deed_laws.specs.Passes.{table_told, talk_behind, IsPassOn, AllPassed, ServedPasses}
 use Rattle.marked_history.specs.Marks.{Mark}
 use Rattle.marked_history.specs.Marks as marking
 use Rattle.marked_history.specs.Served.{Shown, nothing_shown, learned, ServedFrom, Served}
 use Rattle.marked_history.specs.Freeing.{PunchFrees}
 use Rattle.marked_history.specs.Tokens.{ServedKeepsAll}
-use Rattle.marked_history.proofs.Lists.{none_there}
+use Rattle.marked_history.proofs.Lists.{none_there, both_none}
 use Rattle.hsm_system.specs.Events.{HasGrown}
 use Rattle.hsm_system.specs.Lives.{recalls, migrates}
 use Rattle.hsm_cli.specs.Daemons.{IsWellServed, IsWellServedOver, ServedIsWell, KeepsThroughout, KeepsThroughoutOver, ServedKeepsThroughout}
 
 -- nothing was done
+
+none_begins : (limits : Numbers) → BeginsRight limits []
+none_begins limits = record {
+  first = λ before daemon act rest is. absurd (none_there before _ rest is);
+  next = λ before daemon act rest is. absurd (none_there before _ rest is);
+  anew = λ before daemon sid rest is. absurd (none_there before _ rest is);
+}
+
+no_pass : (before rest : List Deed) (sid : Sid) (table : Table) → [] ≡ before ++ rest → IsPassOn sid table (talk_behind before) → ⊥
+no_pass before rest sid table is on =
+    let here : IsPassOn sid table [] = subst (λ (ds : List Deed). IsPassOn sid table (talk_behind ds)) (both_none before rest is).0 on in
+    none_there [] (table_told sid table) here.0 here.1
+
+none_passed : (limits : Numbers) → AllPassed limits []
+none_passed limits = record {
+  within = λ before act rest is. absurd (none_there before _ rest is);
+  over = λ before act rest sid table is. absurd (none_there before _ rest is);
+  gone = λ before rest sid table is on. absurd (no_pass before rest sid table is on);
+}
+
 pub none_well : (s : Superblock) (base : ℕ) (h : Held) → IsWellServed s base h []
 none_well s base h = record {
   anew = λ before daemon sid info rest is. absurd (none_there before _ rest is);
   over = λ before daemon sid old info rest taken is. absurd (none_there before _ rest is);
+  begins = none_begins standard;
+  passes = none_passed standard;
   frees = λ before sid t handle offset len rest is. absurd (none_there before _ rest is);
 }
 
@@ -43,12 +69,14 @@ none_well s base h = record {
 pub record Laws : Type 0 where
   pub anew : (limits : Numbers) (s : Superblock) (base : ℕ) (h : Held) (deeds : List Deed) → ServedMakesAnew limits s base h deeds
   pub over : (limits : Numbers) (deeds : List Deed) → ServedTakesOver limits deeds
+  pub begins : (limits : Numbers) (deeds : List Deed) → ServedBeginsRight limits deeds
+  pub passes : (limits : Numbers) (deeds : List Deed) → ServedPasses limits deeds
   pub frees : (s : Superblock) (base : ℕ) (h : Held) (es : List Entry) → PunchFrees s base h es
 
 well_served : Laws → (s : Superblock) (base : ℕ) (h : Held) (history : List Entry) → IsRunSeen ⊥ s base h history → (deeds : List Deed) → entries_of deeds ≡ history → leading.Served recalls (migrates standard) deeds → IsWellServed s base h deeds
 well_served laws s base h history run deeds same served =
     let is_run : IsRunSeen ⊥ s base h (entries_of deeds) = subst (λ (es : List Entry). IsRunSeen ⊥ s base h es) (sym same) run in
-    record { anew = laws.anew standard s base h deeds served is_run; over = laws.over standard deeds served; frees = laws.frees s base h (entries_of deeds) is_run }
+    record { anew = laws.anew standard s base h deeds served is_run; over = laws.over standard deeds served; begins = laws.begins standard deeds served; passes = laws.passes standard deeds served; frees = laws.frees s base h (entries_of deeds) is_run }
 
 -- on a store that was just opened
 pub run_is_well : {D : Type 0} → Laws → (g : disk.Ghosts D) (old new : HsmStore D) → HasGrown g old new → IsKept g new → ServedIsWell (Some old.opened) new.history

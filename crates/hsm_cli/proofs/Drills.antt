@@ -27,7 +27,8 @@ use Rattle.hsm_cli.specs.Statuses.{status_of, place_of}
 use Rattle.hsm_cli.specs.RunObjects.{SourceTold, SinkTold, HostTold}
 use Rattle.hsm_cli.specs.Daemons.{KeepsThroughoutOver, ServedKeepsThroughout}
 use Rattle.hsm_cli.specs.Follows.{RunsBy, FollowsFirst, IsRunOf, DrillsAll, DrillsFirst, SettlesOn}
-use Rattle.hsm_cli.specs.Sealing.{TellsOf, IsRightInMemory}
+use Rattle.hsm_policy.specs.Settings.{standard}
+use Rattle.hsm_cli.specs.Sealing.{LosesNothing}
 use Rattle.hsm_cli.specs.Endings.{cause_in, WritingEnds, LinesEnd}
 use Rattle.hsm_cli.specs.Openings.{replay_store}
 use Rattle.hsm_cli.specs.Texts.{HasLeft, held_after, drill_text}
@@ -102,18 +103,18 @@ module _ (Settles : List Line → List Mark → Type 0) (Tells : List Mark → T
 module _ {D M : Type 0} (g : drive.Ghosts M) (opened : Store D) (given left : List M) (whole : (opened drives : List M) (limits : Numbers) (marks : List Mark) → Tallies g opened drives limits marks → SealsAreWhole g marks) (sure : g.sure ≡ true)
     (law : (d : M) (v : ℕ) → g.has d v ≡ true → (o : Objects) × g.gives d v o) (number : ℕ) (lines : List Line) (history : List Entry) (is : lines ≡ drill_lines number) (well : ServedKeepsThroughout (Some opened) history) where
   abbrev Right : List Mark → Type 0
-  Right marks = KeepsThroughoutOver (Some opened) marks × IsRightInMemory marks
+  Right marks = KeepsThroughoutOver (Some opened) marks × LosesNothing marks
 
-  says : (FollowsSo : List Line → List Mark → Type 0) → IsRunOf (FollowsSo lines) (TellsOf g given left) history → IsRunOf (FollowsSo (drill_lines number)) Right history
+  says : (FollowsSo : List Line → List Mark → Type 0) → IsRunOf (FollowsSo lines) (Tallies g given left standard) history → IsRunOf (FollowsSo (drill_lines number)) Right history
   says FollowsSo run =
       subst (λ (ls : List Line). IsRunOf (FollowsSo ls) Right history) is
-      (run_says (SettlesOn (Some opened)) (TellsOf g given left) Right history (λ marks entries served tells. (well marks entries served, right_of g given left whole sure law marks tells)) (FollowsSo lines) run)
+      (run_says (SettlesOn (Some opened)) (Tallies g given left standard) Right history (λ marks entries served tells. (well marks entries served, right_of g given left whole sure law marks tells)) (FollowsSo lines) run)
 
-  pub drills_all : {T : Type 0} (ended : Result T Cause) → OnOk ended (IsRunOf (RunsBy (SettlesOn (Some opened)) lines) (TellsOf g given left) history) → OnOk ended (DrillsAll (SettlesOn (Some opened)) Right number history)
+  pub drills_all : {T : Type 0} (ended : Result T Cause) → OnOk ended (IsRunOf (RunsBy (SettlesOn (Some opened)) lines) (Tallies g given left standard) history) → OnOk ended (DrillsAll (SettlesOn (Some opened)) Right number history)
   drills_all (Ok x) run = says (RunsBy (SettlesOn (Some opened))) run
   drills_all (Err why) run = tt
 
-  pub drills_first : IsRunOf (FollowsFirst (SettlesOn (Some opened)) lines) (TellsOf g given left) history → DrillsFirst (SettlesOn (Some opened)) Right number history
+  pub drills_first : IsRunOf (FollowsFirst (SettlesOn (Some opened)) lines) (Tallies g given left standard) history → DrillsFirst (SettlesOn (Some opened)) Right number history
   drills_first run = says (FollowsFirst (SettlesOn (Some opened))) run
 
 -- ---- when each status comes

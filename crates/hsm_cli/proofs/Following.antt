@@ -13,13 +13,10 @@ use Rattle.hsm_system.specs.Running.{Recalling, Migrating}
 use Rattle.hsm_system.specs.declared.stops.Stop.{Stop}
 use Rattle.hsm_replay.specs.Faults.{faults_in, AreTrue}
 use Rattle.marked_history.specs.Follows.{IsPartOf, Follows}
-use Rattle.hsm_replay.specs.Keeping.{RecallKnows, MigrateKnows, RecallLives, MigrateLives, LivesIf, Live, Moves}
-use Rattle.marked_history.specs.Lives.{called_in, called_by, BeginsRight}
+use Rattle.hsm_replay.specs.Keeping.{RecallKnows, MigrateKnows, Moves}
 use Rattle.marked_history.specs.Marks.{Mark}
-use Rattle.hsm_replay.specs.Passes.{CopyEnds, PassStands}
 use Rattle.hsm_replay.specs.Running.{commit_line}
 use Rattle.hsm_replay.specs.Sealed.{HearsLost, HearsStored}
-use Rattle.hsm_replay.specs.Filling.{FindsFull}
 use Rattle.marked_history.specs.Served.{shown, nothing_shown}
 use Rattle.marked_history.specs.Settling.{none_run, running_by, running_behind, AreByRunning, LeavesSettled, EachSettles}
 use Rattle.marked_history.specs.Waiting.{Running}
@@ -27,8 +24,7 @@ use Rattle.hsm_replay.specs.Resting.{first_of, IsLeftBy, LeadsTo}
 use Rattle.hsm_replay.specs.Systems.{Run, running, told_next}
 use Rattle.hsm_replay.proofs.ByRunning.{by_running_behind}
 use Rattle.hsm_replay.proofs.Growing.{have_grown_itself}
-use Rattle.hsm_replay.proofs.PassMarks.{no_passes}
-use Rattle.hsm_cli.specs.Follows.{RunsBy, IsBegun, FollowsFirst, HasRunOn, IsRunTo, SettlesSince, called_behind, lines_run}
+use Rattle.hsm_cli.specs.Follows.{RunsBy, IsBegun, FollowsFirst, HasRunOn, IsRunTo, SettlesSince, lines_run}
 use Rattle.hsm_cli.specs.Runs.{IsReady}
 
 push : (lines : List Line) (marks : List Mark) (line : Line) (part : List Mark) → Follows lines marks → IsPartOf line part → Follows (lines ++ line ∷ []) (marks ++ part)
@@ -38,36 +34,18 @@ push (x ∷ lines) marks line part follows is =
     (follows.0, (rest ++ part, (rw follows.1.1.0 (append_assoc follows.0 rest part), follows.1.1.1, push lines rest line part follows.1.1.2 is)))
 
 -- the lines that were run, and one more with what it has come to
-module _ (limits : Numbers) (s : Superblock) (first : State) where
-  abbrev Behind : (r called : Running) (before : List Mark) (lines : List Line) (marks : List Mark) → EachSettles limits s first r called before lines marks → Running
-  Behind = called_behind limits s first
-
-  abbrev push_settled : (r called : Running) (before : List Mark) (lines : List Line) (marks : List Mark) (line : Line) (part : List Mark) (each : EachSettles limits s first r called before lines marks) → IsPartOf line part → AreByRunning (running_by line (running_behind lines r)) part
-      → LeavesSettled limits s first line (running_by line (running_behind lines r)) (before ++ marks) part → BeginsRight limits (Behind r called before lines marks each) (before ++ marks) part → EachSettles limits s first r called before (lines ++ line ∷ []) (marks ++ part)
-  push_settled r called before [] marks line part none is by left begins =
-      let here : before ++ marks ≡ before = ap (λ (ms : List Mark). before ++ ms) none ∙ append-nil before in
-      (part, ([], (ap (λ (ms : List Mark). ms ++ part) none ∙ sym (append-nil part), is, by, subst (λ (ms : List Mark). LeavesSettled limits s first line (running_by line r) ms part) here left, subst (λ (ms : List Mark). BeginsRight limits called ms part) here begins, refl)))
-  push_settled r called before (x ∷ lines) marks line part each is by left begins =
-      let rest : List Mark = each.1.0 in
-      let then : Running = called_by x (called_in each.0 called) in
-      let on : EachSettles limits s first (running_by x r) then (before ++ each.0) lines rest = each.1.1.5 in
-      let here : before ++ marks ≡ (before ++ each.0) ++ rest = ap (λ (ms : List Mark). before ++ ms) each.1.1.0 ∙ sym (append_assoc before each.0 rest) in
-      let left_here = subst (λ (ms : List Mark). LeavesSettled limits s first line (running_by line (running_behind lines (running_by x r))) ms part) here left in
-      let begins_here = subst (λ (ms : List Mark). BeginsRight limits (Behind (running_by x r) then (before ++ each.0) lines rest on) ms part) here begins in
-      (each.0, (rest ++ part, (ap (λ (ms : List Mark). ms ++ part) each.1.1.0 ∙ append_assoc each.0 rest part, each.1.1.1, each.1.1.2, each.1.1.3, each.1.1.4, push_settled (running_by x r) then (before ++ each.0) lines rest line part on is by left_here begins_here)))
-
-  called_push : (r called : Running) (before : List Mark) (lines : List Line) (marks : List Mark) (line : Line) (part : List Mark) (each : EachSettles limits s first r called before lines marks) (is : IsPartOf line part) (by : AreByRunning (running_by line (running_behind lines r)) part)
-      (left : LeavesSettled limits s first line (running_by line (running_behind lines r)) (before ++ marks) part) (begins : BeginsRight limits (Behind r called before lines marks each) (before ++ marks) part)
-      → Behind r called before (lines ++ line ∷ []) (marks ++ part) (push_settled r called before lines marks line part each is by left begins) ≡ called_by line (called_in part (Behind r called before lines marks each))
-  called_push r called before [] marks line part none is by left begins = refl
-  called_push r called before (x ∷ lines) marks line part each is by left begins =
-      let rest : List Mark = each.1.0 in
-      let then : Running = called_by x (called_in each.0 called) in
-      let on : EachSettles limits s first (running_by x r) then (before ++ each.0) lines rest = each.1.1.5 in
-      let here : before ++ marks ≡ (before ++ each.0) ++ rest = ap (λ (ms : List Mark). before ++ ms) each.1.1.0 ∙ sym (append_assoc before each.0 rest) in
-      called_push (running_by x r) then (before ++ each.0) lines rest line part on is by
-      (subst (λ (ms : List Mark). LeavesSettled limits s first line (running_by line (running_behind lines (running_by x r))) ms part) here left)
-      (subst (λ (ms : List Mark). BeginsRight limits (Behind (running_by x r) then (before ++ each.0) lines rest on) ms part) here begins)
+push_settled : (limits : Numbers) (s : Superblock) (first : State) (r : Running) (before : List Mark) (lines : List Line) (marks : List Mark) (line : Line) (part : List Mark) → EachSettles limits s first r before lines marks → IsPartOf line part
+    → AreByRunning (running_by line (running_behind lines r)) part → LeavesSettled limits s first line (running_by line (running_behind lines r)) (before ++ marks) part → EachSettles limits s first r before (lines ++ line ∷ []) (marks ++ part)
+push_settled limits s first r before [] marks line part none is by left =
+    let here : before ++ marks ≡ before = ap (λ (ms : List Mark). before ++ ms) none ∙ append-nil before in
+    (part, ([], (ap (λ (ms : List Mark). ms ++ part) none ∙ sym (append-nil part), is, by, subst (λ (ms : List Mark). LeavesSettled limits s first line (running_by line r) ms part) here left, refl)))
+push_settled limits s first r before (x ∷ lines) marks line part each is by left =
+    let rest : List Mark = each.1.0 in
+    let here : before ++ marks ≡ (before ++ each.0) ++ rest = ap (λ (ms : List Mark). before ++ ms) each.1.1.0 ∙ sym (append_assoc before each.0 rest) in
+    let left_here = subst (λ (ms : List Mark). LeavesSettled limits s first line (running_by line (running_behind lines (running_by x r))) ms part) here left in (
+      each.0,
+      (rest ++ part, (ap (λ (ms : List Mark). ms ++ part) each.1.1.0 ∙ append_assoc each.0 rest part, each.1.1.1, each.1.1.2, each.1.1.3, push_settled limits s first (running_by x r) (before ++ each.0) lines rest line part each.1.1.4 is by left_here)),
+    )
 
 running_push : (lines : List Line) (line : Line) (r : Running) → running_behind (lines ++ line ∷ []) r ≡ running_by line (running_behind lines r)
 running_push [] line r = refl
@@ -99,18 +77,11 @@ module _ {D M : Type 0} (g : disk.Ghosts D) (h : drive.Ghosts M) where
           aborts = λ before sid t reply rest is. absurd (no_mark before _ rest is);
           damages = λ before sid t volume object want got reply rest is. absurd (no_mark before _ rest is);
         };
-        passes = no_passes (CopyEnds h s.drives s.system.limits) s.system.limits;
       };
       recall = subst (λ (o : Option Recalling). IfSome o (RecallKnows h (shown s.system.limits nothing_shown []).recall s.drives (faults_in s.system.store.history))) (sym ready.recall) tt;
       migrate = subst (λ (o : Option Migrating). IfSome o (MigrateKnows (shown s.system.limits nothing_shown []).migrate)) (sym ready.migrate) tt;
       lost = subst (λ (o : Option Recalling). IfSome o (λ (r : Recalling). HearsLost h s.drives s.drives [] r.machine.asked (told_next r.next))) (sym ready.recall) tt;
       stored = subst (λ (o : Option Migrating). IfSome o (λ (m : Migrating). HearsStored h s.drives m.machine.asked (told_next m.next))) (sym ready.migrate) tt;
-      full = subst (λ (o : Option Migrating). IfSome o (FindsFull h s.drives s.system.limits)) (sym ready.migrate) tt;
-      passing = subst (λ (o : Option Migrating). IfSome o (PassStands s.system.limits [])) (sym ready.migrate) tt;
-    };
-    live = record {
-      recall = subst (λ (o : Option Recalling). LivesIf (RecallLives [] (shown s.system.limits nothing_shown []).recall) false o) (sym ready.recall) refl;
-      migrate = subst (λ (o : Option Migrating). LivesIf (MigrateLives [] (shown s.system.limits nothing_shown []).migrate) false o) (sym ready.migrate) refl;
     };
   }
 
@@ -128,32 +99,24 @@ module _ {D M : Type 0} (g : disk.Ghosts D) (h : drive.Ghosts M) (from : Run D M
       (subst (λ (s : FileStore D). LeavesSettled from.system.limits (superblock_of s) (just_opened s.meta.number s.held) line (running new) before part) opened
       (subst (λ (n : Numbers). LeavesSettled n (superblock_of new.system.store.opened) (first_of new) line (running new) before part) limits left))
 
-  -- who has called behind the lines so far
-  abbrev CalledBy : (lines : List Line) (marks : List Mark) → RunsBy Settles lines marks → Running
-  CalledBy lines marks runs = called_behind from.system.limits (superblock_of from.system.store.opened) (first_of from) none_run none_run [] lines marks runs.settles
-
-  abbrev runs_more : (lines : List Line) (line : Line) (marks part : List Mark) (runs : RunsBy Settles lines marks) → IsPartOf line part → AreByRunning (running_by line (running_behind lines none_run)) part
-      → LeavesSettled from.system.limits (superblock_of from.system.store.opened) (first_of from) line (running_by line (running_behind lines none_run)) marks part → BeginsRight from.system.limits (CalledBy lines marks runs) marks part → RunsBy Settles (lines ++ line ∷ []) (marks ++ part)
-  runs_more lines line marks part runs is by left begins = record {
+  runs_more : (lines : List Line) (line : Line) (marks part : List Mark) (runs : RunsBy Settles lines marks) → IsPartOf line part → AreByRunning (running_by line (running_behind lines none_run)) part
+      → LeavesSettled from.system.limits (superblock_of from.system.store.opened) (first_of from) line (running_by line (running_behind lines none_run)) marks part → RunsBy Settles (lines ++ line ∷ []) (marks ++ part)
+  runs_more lines line marks part runs is by left = record {
     follows = push lines marks line part runs.follows is;
-    settles = push_settled from.system.limits (superblock_of from.system.store.opened) (first_of from) none_run none_run [] lines marks line part runs.settles is by left begins;
+    settles = push_settled from.system.limits (superblock_of from.system.store.opened) (first_of from) none_run [] lines marks line part runs.settles is by left;
   }
 
   -- it was run
-  pub run_more : (lines : List Line) (line : Line) (old new : Run D M) → IsRunTo h from lines old → LeadsTo h (IsPartOf line) (IsLeftBy line old new) old new → new.system.limits ≡ from.system.limits → new.system.store.opened ≡ from.system.store.opened → running new ≡ running_by line (running old) → IsRunTo h from (lines ++ line ∷ []) new
+  pub run_more : (lines : List Line) (line : Line) (old new : Run D M) → IsRunTo h from lines old → LeadsTo h (IsPartOf line) (IsLeftBy line new) old new → new.system.limits ≡ from.system.limits → new.system.store.opened ≡ from.system.store.opened → running new ≡ running_by line (running old) → IsRunTo h from (lines ++ line ∷ []) new
   run_more lines line old new run leads limits opened runs =
       let on = leads from.drives run.marks run.shows in
       let same : running new ≡ running_by line (running_behind lines none_run) = runs ∙ ap (running_by line) run.running in
       let by = subst (λ (r : Running). AreByRunning (running_by line r) on.0) run.running (by_running_behind line (running old) on.0 on.1 on.4) in
-      let left = left_since line (running_by line (running_behind lines none_run)) run.marks on.0 new limits opened same on.3.0 in
-      let lives = on.3.1 from.system.limits (CalledBy lines run.marks run.runs) run.live in
       record {
         marks = run.marks ++ on.0;
-        runs = runs_more lines line run.marks on.0 run.runs on.1 by left lives.1;
+        runs = runs_more lines line run.marks on.0 run.runs on.1 by (left_since line (running_by line (running_behind lines none_run)) run.marks on.0 new limits opened same on.3);
         shows = on.2;
         running = same ∙ sym (running_push lines line none_run);
-        live = subst (λ (called : Running). Live from.system.limits called (run.marks ++ on.0) new)
-            (sym (called_push from.system.limits (superblock_of from.system.store.opened) (first_of from) none_run none_run [] lines run.marks line on.0 run.runs.settles on.1 by left lives.1)) lives.0;
       }
 
   -- or begun
@@ -207,8 +170,7 @@ module _ {D M : Type 0} (g : disk.Ghosts D) (h : drive.Ghosts M) (from : Run D M
   committed_run : {T : Type 0} (x : T) (lines : List Line) (old new : Run D M) → IsRunTo h from lines old → Moves g h (IsPartOf commit_line) (Ok x) old new → HasRunOn h from.drives (RunsBy Settles (lines ++ commit_line ∷ [])) new
   committed_run x lines old new run moves =
       let on = moves.keeps from.drives run.marks run.shows in
-      let begins = on.4 from.system.limits (CalledBy lines run.marks run.runs) run.live in
-      record { marks = run.marks ++ on.0; follows = runs_more lines commit_line run.marks on.0 run.runs on.1 (subst (λ (r : Running). AreByRunning r on.0) run.running on.3) tt begins.1; marked = on.2.marked }
+      record { marks = run.marks ++ on.0; follows = runs_more lines commit_line run.marks on.0 run.runs on.1 (subst (λ (r : Running). AreByRunning r on.0) run.running on.3) tt; marked = on.2.marked }
 
   pub committed : (result : Result (Unit {0}) Stop) (lines : List Line) (old new : Run D M) → IsRunTo h from lines old → Moves g h (IsPartOf commit_line) result old new → HasRunOn h from.drives (FollowsFirst Settles (lines ++ commit_line ∷ [])) new
   committed (Ok tt) lines old new run moves = all_first (lines ++ commit_line ∷ []) [] (lines ++ commit_line ∷ []) new (append-nil (lines ++ commit_line ∷ [])) (committed_run tt lines old new run moves)

@@ -22,7 +22,7 @@ use Rattle.hsm_cli.specs.Daemons.{KeepsThroughoutOver}
 use Rattle.hsm_cli.specs.Deeds.{DeedsClause}
 use Rattle.hsm_cli.specs.Follows.{SettlesOn}
 use Rattle.hosts.specs.Hosts.{StoresAll}
-use Rattle.hsm_cli.specs.Sealing.{IsRightInMemory, IsRightInFolder}
+use Rattle.hsm_cli.specs.Sealing.{LosesNothing, TalliesSince}
 use Rattle.hsm_cli.specs.Texts.{IsUnwritten, TakesText, IsShown, AreUntold, AreCounted, drill_text}
 use Rattle.hsm_cli.specs.RunObjects.{SourceTold, SinkTold, FailsOnce, host_told}
 use Rattle.hsm_cli.specs.Endings.{WritingEnds, RunEnds, FormatEnds, ShowEnds}
@@ -195,7 +195,7 @@ module _ {H D M : Type 0} (t : host.Ghosts H D M) (g : disk.Ghosts D) (h : drive
     new_caused = subst (λ (s : Option (Store D)). IsCausedOver s o.history) (sym not_opened) caused
 
     pub replay_keeps : ((bytes : List ℕ) (lines : List Line) → IsScript bytes lines → IsOneScript bytes lines)
-        → HasRun (SettlesOn (opened_in o)) (λ marks. KeepsThroughoutOver (opened_in o) marks × IsRightInMemory marks) false source o.cause o.history
+        → HasRun (SettlesOn (opened_in o)) (λ marks. KeepsThroughoutOver (opened_in o) marks × LosesNothing marks) false source o.cause o.history
         → DeedsClause h (t.stores old) (Some Replay) source o
         → HasRead source o.cause
         → TakesTranscript o sink
@@ -222,7 +222,7 @@ module _ {H D M : Type 0} (t : host.Ghosts H D M) (g : disk.Ghosts D) (h : drive
     }
 
     pub drill_keeps : (number : ℕ)
-        → HasDrilled (SettlesOn (opened_in o)) (λ marks. KeepsThroughoutOver (opened_in o) marks × IsRightInMemory marks) number o.cause o.history
+        → HasDrilled (SettlesOn (opened_in o)) (λ marks. KeepsThroughoutOver (opened_in o) marks × LosesNothing marks) number o.cause o.history
         → DeedsClause h (t.stores old) (Some (Drill number)) source o
         → TakesText (λ text. text ≡ drill_text number o.history) sink o.cause
         → IfSome o.cause (WritingEnds sink)
@@ -249,7 +249,7 @@ module _ {H D M : Type 0} (t : host.Ghosts H D M) (g : disk.Ghosts D) (h : drive
   pub store_keeps : (path dir : List ℕ) → ((bytes : List ℕ) (lines : List Line) → IsScript bytes lines → IsOneScript bytes lines)
       → (o.status ≡ status_of o.cause) × (o.at ≡ place_of o.cause) × (o.base ≡ base_of (opened_in o))
       → o.cause ≢ Some WordsRefused
-      → HasRun (SettlesOn (opened_in o)) (λ marks. KeepsThroughoutOver (opened_in o) marks × IsRightInFolder h (t.stores old dir) o.drives marks) true source o.cause o.history
+      → HasRun (SettlesOn (opened_in o)) (λ marks. KeepsThroughoutOver (opened_in o) marks × TalliesSince h (t.stores old dir) o.drives marks) true source o.cause o.history
       → DeedsClause h (t.stores old) (Some (ReplayStore path dir)) source o
       → HasReadOn (opened_in o) source o.cause
       → LegalityClause g o

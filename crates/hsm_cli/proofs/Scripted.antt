@@ -10,8 +10,6 @@ use Rattle.script_text.specs.Scripts.{IsScript}
 use Rattle.hsm_replay.specs.Faults.{faults_in, AreTrue}
 use Rattle.file_store.specs.Stores.{Store, superblock_of}
 use Rattle.marked_history.specs.Marks.{Mark, entries_of}
-use Rattle.marked_history.specs.Passing.{AllPassed}
-use Rattle.hsm_replay.specs.Passes.{CopyEnds}
 use Rattle.hsm_replay.specs.Sealed.{Tallies}
 use Rattle.marked_history.specs.Served.{Served}
 use Rattle.marked_history.specs.Settling.{none_run as no_daemon, EachSettles}
@@ -26,7 +24,6 @@ use Rattle.hsm_cli.specs.Endings.{ScriptEnds, IsBeforeReading}
 use Rattle.hsm_cli.specs.Follows.{RunsBy, FollowsFirst, HasRunOn, IsOfScript, IsRunOf, FollowsScript, RunsAll, RunsFirst, SettlesOn}
 use Rattle.hsm_cli.specs.Follows.{SettlesSince, lines_run}
 use Rattle.hsm_cli.specs.Openings.{replay_store}
-use Rattle.hsm_cli.specs.Sealing.{TellsOf}
 use Rattle.hsm_cli.specs.Sources.{script_bytes}
 use Rattle.hsm_cli.specs.RunObjects.{SourceTold}
 
@@ -54,19 +51,16 @@ script_of FollowsSo None lines marks script follows = tt
 script_of FollowsSo (Some bytes) lines marks script follows = record { lines = lines; script = script; follows = follows }
 
 module _ {D M : Type 0} {opened : List M} (h : drive.Ghosts M) (s : Run D M) (limits : s.system.limits ≡ standard) where
-  run_of : (FollowsSo : List Mark → Type 0) → HasRunOn h opened FollowsSo s → IsRunOf FollowsSo (TellsOf h opened s.drives) s.system.store.history
+  run_of : (FollowsSo : List Mark → Type 0) → HasRunOn h opened FollowsSo s → IsRunOf FollowsSo (Tallies h opened s.drives standard) s.system.store.history
   run_of FollowsSo run = record {
     marks = run.marks;
     entries = run.marked.entries;
     follows = run.follows;
     served = subst (λ (n : Numbers). Served n run.marks) limits run.marked.served;
-    tells = record {
-      sealed = subst (λ (n : Numbers). Tallies h opened s.drives n run.marks) limits run.marked.sealed;
-      passes = subst (λ (n : Numbers). AllPassed (CopyEnds h s.drives n) n run.marks) limits run.marked.passes;
-    };
+    tells = subst (λ (n : Numbers). Tallies h opened s.drives n run.marks) limits run.marked.sealed;
   }
 
-  script_run : (FollowsSo : List Line → List Mark → Type 0) (given : Option (List ℕ)) (lines : List Line) → IfSome given (λ bytes. IsScript (script_bytes bytes) lines) → HasRunOn h opened (FollowsSo lines) s → IsRunOf (FollowsScript FollowsSo given) (TellsOf h opened s.drives) s.system.store.history
+  script_run : (FollowsSo : List Line → List Mark → Type 0) (given : Option (List ℕ)) (lines : List Line) → IfSome given (λ bytes. IsScript (script_bytes bytes) lines) → HasRunOn h opened (FollowsSo lines) s → IsRunOf (FollowsScript FollowsSo given) (Tallies h opened s.drives standard) s.system.store.history
   script_run FollowsSo given lines script run = run_of (FollowsScript FollowsSo given) (record { marks = run.marks; follows = script_of FollowsSo given lines run.marks script run.follows; marked = run.marked })
 
 -- ---- by the default settings
@@ -74,18 +68,18 @@ module _ {D M : Type 0} {opened : List M} (h : drive.Ghosts M) (s : Run D M) (li
 -- whose settles are those of the store that was opened
 module _ {D M : Type 0} {opened : List M} (h : drive.Ghosts M) (from s : Run D M) (since : from.system.limits ≡ standard) (limits : s.system.limits ≡ standard) where
   by_default : (FollowsSo : (List Line → List Mark → Type 0) → List Mark → Type 0) → HasRunOn h opened (FollowsSo (SettlesSince from)) s → HasRunOn h opened (FollowsSo (SettlesOn (Some from.system.store.opened))) s
-  by_default FollowsSo run = subst (λ (n : Numbers). HasRunOn h opened (FollowsSo (EachSettles n (superblock_of from.system.store.opened) (first_of from) no_daemon no_daemon [])) s) since run
+  by_default FollowsSo run = subst (λ (n : Numbers). HasRunOn h opened (FollowsSo (EachSettles n (superblock_of from.system.store.opened) (first_of from) no_daemon [])) s) since run
 
-  pub lines_run_all : (lines : List Line) → HasRunOn h opened (RunsBy (SettlesSince from) lines) s → IsRunOf (RunsBy (SettlesOn (Some from.system.store.opened)) lines) (TellsOf h opened s.drives) s.system.store.history
+  pub lines_run_all : (lines : List Line) → HasRunOn h opened (RunsBy (SettlesSince from) lines) s → IsRunOf (RunsBy (SettlesOn (Some from.system.store.opened)) lines) (Tallies h opened s.drives standard) s.system.store.history
   lines_run_all lines run = run_of h s limits (RunsBy (SettlesOn (Some from.system.store.opened)) lines) (by_default (λ so marks. RunsBy so lines marks) run)
 
-  pub lines_run_first : (lines : List Line) → HasRunOn h opened (FollowsFirst (SettlesSince from) lines) s → IsRunOf (FollowsFirst (SettlesOn (Some from.system.store.opened)) lines) (TellsOf h opened s.drives) s.system.store.history
+  pub lines_run_first : (lines : List Line) → HasRunOn h opened (FollowsFirst (SettlesSince from) lines) s → IsRunOf (FollowsFirst (SettlesOn (Some from.system.store.opened)) lines) (Tallies h opened s.drives standard) s.system.store.history
   lines_run_first lines run = run_of h s limits (FollowsFirst (SettlesOn (Some from.system.store.opened)) lines) (by_default (λ so marks. FollowsFirst so lines marks) run)
 
-  pub all_run : (commits : Bool) (given : Option (List ℕ)) (lines : List Line) → IfSome given (λ bytes. IsScript (script_bytes bytes) lines) → HasRunOn h opened (RunsBy (SettlesSince from) (lines_run commits lines)) s → RunsAll (SettlesOn (Some from.system.store.opened)) (TellsOf h opened s.drives) commits given s.system.store.history
+  pub all_run : (commits : Bool) (given : Option (List ℕ)) (lines : List Line) → IfSome given (λ bytes. IsScript (script_bytes bytes) lines) → HasRunOn h opened (RunsBy (SettlesSince from) (lines_run commits lines)) s → RunsAll (SettlesOn (Some from.system.store.opened)) (Tallies h opened s.drives standard) commits given s.system.store.history
   all_run commits given lines script run = script_run h s limits (λ ls marks. RunsBy (SettlesOn (Some from.system.store.opened)) (lines_run commits ls) marks) given lines script (by_default (λ so marks. RunsBy so (lines_run commits lines) marks) run)
 
-  pub first_run : (commits : Bool) (given : Option (List ℕ)) (lines : List Line) → IfSome given (λ bytes. IsScript (script_bytes bytes) lines) → HasRunOn h opened (FollowsFirst (SettlesSince from) (lines_run commits lines)) s → RunsFirst (SettlesOn (Some from.system.store.opened)) (TellsOf h opened s.drives) commits given s.system.store.history
+  pub first_run : (commits : Bool) (given : Option (List ℕ)) (lines : List Line) → IfSome given (λ bytes. IsScript (script_bytes bytes) lines) → HasRunOn h opened (FollowsFirst (SettlesSince from) (lines_run commits lines)) s → RunsFirst (SettlesOn (Some from.system.store.opened)) (Tallies h opened s.drives standard) commits given s.system.store.history
   first_run commits given lines script run = script_run h s limits (λ ls marks. FollowsFirst (SettlesOn (Some from.system.store.opened)) (lines_run commits ls) marks) given lines script (by_default (λ so marks. FollowsFirst so (lines_run commits lines) marks) run)
 
 -- ---- what marks tell
@@ -161,6 +155,6 @@ idle_none history old new (Err why) none same = ap history same ∙ none
 pub settles_new : {D : Type 0} (E : Type 0) (s : Store D) (IsSo : (List Line → List Mark → Type 0) → (List Mark → Type 0) → Type 0) → superblock_of s ≡ replay_store → s.held ≡ nothing_held → s.meta.number ≡ 0
     → IsSo (SettlesOn (Some s)) (KeepsThroughoutOver (Some s)) → IsSo (SettlesOn {D = E} None) (KeepsThroughoutOver {D = E} None)
 settles_new E s IsSo superblock held number so =
-    subst (λ (x : Held). IsSo (EachSettles standard replay_store (just_opened 0 x) no_daemon no_daemon []) (KeepsThroughout replay_store 0 x)) held
-    (subst (λ (n : ℕ). IsSo (EachSettles standard replay_store (just_opened n s.held) no_daemon no_daemon []) (KeepsThroughout replay_store n s.held)) number
-    (subst (λ (x : Superblock). IsSo (EachSettles standard x (just_opened s.meta.number s.held) no_daemon no_daemon []) (KeepsThroughout x s.meta.number s.held)) superblock so))
+    subst (λ (x : Held). IsSo (EachSettles standard replay_store (just_opened 0 x) no_daemon []) (KeepsThroughout replay_store 0 x)) held
+    (subst (λ (n : ℕ). IsSo (EachSettles standard replay_store (just_opened n s.held) no_daemon []) (KeepsThroughout replay_store n s.held)) number
+    (subst (λ (x : Superblock). IsSo (EachSettles standard x (just_opened s.meta.number s.held) no_daemon []) (KeepsThroughout x s.meta.number s.held)) superblock so))

@@ -14,7 +14,6 @@ use Rattle.plain_model.specs.declared.entries.Entry.{Entry}
 use Rattle.hsm_policy.specs.Settings.{Numbers, standard}
 use Rattle.recall_daemon.specs.Known.{Known}
 use Rattle.marked_history.specs.Marks.{Mark, made}
-use Rattle.hsm_replay.specs.Passes.{CopyEnds}
 use Rattle.hsm_replay.specs.Sealed.{seal_by, sealed_in, IsUnnamed, Gives, IsThere, IsStored, IsLost, NeedsLost, Tallies, SealsAreWhole}
 use Rattle.marked_history.specs.Served.{shown, nothing_shown}
 use Rattle.hsm_cli.specs.declared.causes.Cause.{Cause}
@@ -22,10 +21,9 @@ use Rattle.hsm_cli.specs.declared.causes.Cause.TheVariants.{NoMemory}
 use Rattle.script_text.specs.declared.lines.Line.{Line}
 use Rattle.hsm_cli.specs.Clauses.{HasRun}
 use Rattle.hsm_cli.specs.Endings.{IsBeforeReading}
-use Rattle.hsm_cli.specs.Sealing.{IsUnknown, NeedsUnknown, LosesNothing, TellsOf, IsRightInMemory, IsRightInFolder, TalliesSince}
+use Rattle.hsm_cli.specs.Sealing.{IsUnknown, NeedsUnknown, LosesNothing}
 use Rattle.hsm_cli.specs.RunObjects.{SourceTold}
 use Rattle.marked_history.proofs.Lists.{all_first}
-use Rattle.hsm_replay.proofs.PassMarks.{all_passed_as}
 use Rattle.hsm_cli.proofs.Scripted.{ran_with}
 
 -- of the entries that are sealed, those of a beginning
@@ -66,15 +64,12 @@ module _ {M : Type 0} (g : drive.Ghosts M) (opened ds : List M) (law : (d : M) (
 
 -- what marks tell with drives in memory
 pub right_of : {M : Type 0} (g : drive.Ghosts M) (opened left : List M) → ((opened drives : List M) (limits : Numbers) (marks : List Mark) → Tallies g opened drives limits marks → SealsAreWhole g marks) → g.sure ≡ true
-    → ((d : M) (v : ℕ) → g.has d v ≡ true → (o : Objects) × g.gives d v o) → (marks : List Mark) → TellsOf g opened left marks → IsRightInMemory marks
-right_of g opened left whole sure law marks tells = record {
-  loses = loses_nothing g opened left law marks (whole opened left standard marks tells.sealed) sure tells.sealed;
-  passes = all_passed_as (CopyEnds g left standard) (Unit {0}) standard marks (λ ends. tt) tells.passes;
-}
+    → ((d : M) (v : ℕ) → g.has d v ≡ true → (o : Objects) × g.gives d v o) → (marks : List Mark) → Tallies g opened left standard marks → LosesNothing marks
+right_of g opened left whole sure law marks tallies = loses_nothing g opened left law marks (whole opened left standard marks tallies) sure tallies
 
 -- if any came
 right_with : {M V : Type 0} (g : drive.Ghosts M) (items : V → List M) (ready : Result V Cause) (left : List M) → ((opened drives : List M) (limits : Numbers) (marks : List Mark) → Tallies g opened drives limits marks → SealsAreWhole g marks) → g.sure ≡ true
-    → ((d : M) (v : ℕ) → g.has d v ≡ true → (o : Objects) × g.gives d v o) → IfOk ready (λ ds. (marks : List Mark) → TellsOf g (items ds) left marks → IsRightInMemory marks)
+    → ((d : M) (v : ℕ) → g.has d v ≡ true → (o : Objects) × g.gives d v o) → IfOk ready (λ ds. (marks : List Mark) → Tallies g (items ds) left standard marks → LosesNothing marks)
 right_with g items (Ok ds) left whole sure law = right_of g (items ds) left whole sure law
 right_with g items (Err why) left whole sure law = tt
 
@@ -84,12 +79,6 @@ wants_memory (Err why) is = subst IsBeforeReading (sym is) tt
 
 pub right_run : {M V : Type 0} (Settles : List Line → List Mark → Type 0) (g : drive.Ghosts M) (items : V → List M) (left : List M) (ready : Result V Cause) (commits : Bool) (source : SourceTold) (cause : Option Cause) (history : List Entry)
     → ((opened drives : List M) (limits : Numbers) (marks : List Mark) → Tallies g opened drives limits marks → SealsAreWhole g marks) → g.sure ≡ true → ((d : M) (v : ℕ) → g.has d v ≡ true → (o : Objects) × g.gives d v o)
-    → IfErr ready (λ why. why ≡ NoMemory) → IfErr ready (λ why. (cause ≡ Some why) ⊎ (cause ≡ Some NoMemory)) → OnErr ready (history ≡ []) → HasRun Settles (λ marks. IfOk ready (λ ds. TellsOf g (items ds) left marks)) commits source cause history → HasRun Settles IsRightInMemory commits source cause history
+    → IfErr ready (λ why. why ≡ NoMemory) → IfErr ready (λ why. (cause ≡ Some why) ⊎ (cause ≡ Some NoMemory)) → OnErr ready (history ≡ []) → HasRun Settles (λ marks. IfOk ready (λ ds. Tallies g (items ds) left standard marks)) commits source cause history → HasRun Settles LosesNothing commits source cause history
 right_run Settles g items left ready commits source cause history whole sure law why unready idle ran =
-    ran_with Settles (λ ds marks. TellsOf g (items ds) left marks) IsRightInMemory ready commits source cause history (right_with g items ready left whole sure law) (wants_memory ready why) unready idle ran
-
--- and with drives of the host
-pub right_since : {M V : Type 0} (g : drive.Ghosts M) (stored : ℕ → Objects → Type 0) (items : V → List M) (ready : Result V Cause) (left : List M) → IfOk ready (λ ds. (marks : List Mark) → Tallies g (items ds) left standard marks → TalliesSince g stored left marks)
-    → IfOk ready (λ ds. (marks : List Mark) → TellsOf g (items ds) left marks → IsRightInFolder g stored left marks)
-right_since g stored items (Ok ds) left since = λ marks tells. record { tallies = since marks tells.sealed; passes = tells.passes }
-right_since g stored items (Err why) left since = tt
+    ran_with Settles (λ ds marks. Tallies g (items ds) left standard marks) LosesNothing ready commits source cause history (right_with g items ready left whole sure law) (wants_memory ready why) unready idle ran

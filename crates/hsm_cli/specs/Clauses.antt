@@ -46,7 +46,7 @@ use Rattle.hsm_cli.specs.Daemons.{KeepsThroughoutOver}
 use Rattle.hsm_cli.specs.Deeds.{DeedsClause}
 use Rattle.hsm_cli.specs.Follows.{SettlesOn, RunsAll, RunsFirst, DrillsAll, DrillsFirst}
 use Rattle.hosts.specs.Hosts.{IsHanded, AreHanded, HoldsNothing, HoldsOthers, HoldsAll, StoresNothing, StoresOthers, StoresAll}
-use Rattle.hsm_cli.specs.Sealing.{IsRightInMemory, IsRightInFolder}
+use Rattle.hsm_cli.specs.Sealing.{LosesNothing, TalliesSince}
 use Rattle.hsm_cli.specs.Texts.{IsUnwritten, TakesText, IsShown, AreUntold, AreCounted, shown_drives, shown_volumes, drill_text}
 use Rattle.hsm_cli.specs.RunObjects.{SourceTold, SinkTold, HostTold, host_told, FailsOnce}
 
@@ -81,11 +81,11 @@ HasDrilled Settles Says number (Some why) history = history ≡ []
 abbrev pub ScriptClause : {D M : Type 0} → drive.Ghosts M → (List ℕ → ℕ → Objects → Type 0) → Option Form → SourceTold → Outcome D M → Type 0
 ScriptClause g stores None source o = o.history ≡ []
 ScriptClause g stores (Some (Format path size)) source o = o.history ≡ []
-ScriptClause g stores (Some Replay) source o = HasRun (SettlesOn (opened_in o)) (λ marks. KeepsThroughoutOver (opened_in o) marks × IsRightInMemory marks) false source o.cause o.history
-ScriptClause g stores (Some (ReplayStore path dir)) source o = HasRun (SettlesOn (opened_in o)) (λ marks. KeepsThroughoutOver (opened_in o) marks × IsRightInFolder g (stores dir) o.drives marks) true source o.cause o.history
+ScriptClause g stores (Some Replay) source o = HasRun (SettlesOn (opened_in o)) (λ marks. KeepsThroughoutOver (opened_in o) marks × LosesNothing marks) false source o.cause o.history
+ScriptClause g stores (Some (ReplayStore path dir)) source o = HasRun (SettlesOn (opened_in o)) (λ marks. KeepsThroughoutOver (opened_in o) marks × TalliesSince g (stores dir) o.drives marks) true source o.cause o.history
 ScriptClause g stores (Some (Show path)) source o = o.history ≡ []
 ScriptClause g stores (Some (ShowVolumes path dir)) source o = o.history ≡ []
-ScriptClause g stores (Some (Drill number)) source o = HasDrilled (SettlesOn (opened_in o)) (λ marks. KeepsThroughoutOver (opened_in o) marks × IsRightInMemory marks) number o.cause o.history
+ScriptClause g stores (Some (Drill number)) source o = HasDrilled (SettlesOn (opened_in o)) (λ marks. KeepsThroughoutOver (opened_in o) marks × LosesNothing marks) number o.cause o.history
 
 -- ---- the reading clause
 

@@ -9,7 +9,9 @@ use Rattle.file_store.specs.Stores.{Store}
 use Rattle.deeds.specs.Deeds.{Deed, entries_of}
 use Rattle.deeds.specs.Leads.{Served}
 use Rattle.hsm_system.specs.Lives.{recalls, migrates}
+use Rattle.deed_laws.specs.Beginning.{BeginsRight}
 use Rattle.deed_laws.specs.DaemonSessions.{MakesAnew, TakesOver}
+use Rattle.deed_laws.specs.Passes.{AllPassed}
 use Rattle.marked_history.specs.Freeing.{PunchesFree}
 use Rattle.marked_history.specs.Marks.{Mark}
 use Rattle.marked_history.specs.Marks as marking
@@ -21,10 +23,13 @@ use Rattle.hsm_cli.specs.Openings.{superblock_at, held_at, base_of}
 
 -- Of a run on a store that held this when it was opened under that number. A daemon makes a session beside the others only where it was told all
 -- sessions, none of which had its information then, and takes the place of one only where it was told that this one has its information; it has
--- neither asked anew nor was it ended since. Each punch that is done frees just the mapped blocks of the segments that it names.
+-- neither asked anew nor was it ended since. It begins by asking for all sessions, and anew only where it has none or that is gone. Each act of a pass is
+-- fit for the picks of its table, and a pass that is over has done with them. Each punch that is done frees just the mapped blocks of its segments.
 pub record IsWellServed (s : Superblock) (base : ℕ) (h : Held) (deeds : List Deed) : Type 0 where
   pub anew : MakesAnew s (just_opened base h) deeds
   pub over : TakesOver deeds
+  pub begins : BeginsRight standard deeds
+  pub passes : AllPassed standard deeds
   pub frees : PunchesFree s base h (entries_of deeds)
 
 -- on the store that was opened

@@ -2,21 +2,18 @@
 use Rattle.std.specs.Prelude.{ℕ, ◌≡◌, ◌⊎◌, List, [], ◌∷◌, ◌++◌, Bool, true, false, Option, IfSome}
 use Rattle.media_model.specs.declared.drive.Drive as drive
 use Rattle.plain_model.specs.declared.entries.Entry.{Entry}
-use Rattle.hsm_types.specs.declared.stores.Superblock.{Superblock}
-use Rattle.plain_model.specs.State.{State, just_opened}
-use Rattle.hsm_policy.specs.Settings.{Numbers, standard}
+use Rattle.plain_model.specs.State.{just_opened}
+use Rattle.hsm_policy.specs.Settings.{standard}
 use Rattle.script_text.specs.declared.lines.Line.{Line}
 use Rattle.script_text.specs.Scripts.{IsScript}
 use Rattle.drill_script.specs.Drill.{drill_lines}
 use Rattle.file_store.specs.Stores.{Store, superblock_of}
 use Rattle.marked_history.specs.Follows.{IsPartOf, Follows}
-use Rattle.hsm_replay.specs.Keeping.{IsMarked, Shows, Live}
-use Rattle.marked_history.specs.Lives.{called_in, called_by}
+use Rattle.hsm_replay.specs.Keeping.{IsMarked, Shows}
 use Rattle.marked_history.specs.Marks.{Mark, entries_of}
 use Rattle.hsm_replay.specs.Running.{commit_line}
 use Rattle.marked_history.specs.Served.{Served}
-use Rattle.marked_history.specs.Settling.{none_run, running_by, running_behind, AreByRunning, EachSettles}
-use Rattle.marked_history.specs.Waiting.{Running}
+use Rattle.marked_history.specs.Settling.{none_run, running_behind, AreByRunning, EachSettles}
 use Rattle.hsm_replay.specs.Resting.{first_of}
 use Rattle.hsm_replay.specs.Systems.{Run, running}
 use Rattle.hsm_cli.specs.Openings.{superblock_at, held_at, base_of}
@@ -52,17 +49,11 @@ lines_run true lines = lines ++ commit_line ∷ []
 
 -- each settle of the lines has come to its end so, since no daemon ran on this store
 abbrev pub SettlesSince : {D M : Type 0} → Run D M → List Line → List Mark → Type 0
-SettlesSince s = EachSettles s.system.limits (superblock_of s.system.store.opened) (first_of s) none_run none_run []
+SettlesSince s = EachSettles s.system.limits (superblock_of s.system.store.opened) (first_of s) none_run []
 
 -- on the store that was opened, by the default settings
 abbrev pub SettlesOn : {D : Type 0} → Option (Store D) → List Line → List Mark → Type 0
-SettlesOn opened = EachSettles standard (superblock_at opened) (just_opened (base_of opened) (held_at opened)) none_run none_run []
-
--- which daemons have called since they were started, behind lines that were run so
-module _ (limits : Numbers) (s : Superblock) (first : State) where
-  abbrev pub called_behind : (r called : Running) (before : List Mark) (lines : List Line) (marks : List Mark) → EachSettles limits s first r called before lines marks → Running
-  called_behind r called before [] marks each = called
-  called_behind r called before (line ∷ lines) marks each = called_behind (running_by line r) (called_by line (called_in each.0 called)) (before ++ each.0) lines each.1.0 each.1.1.5
+SettlesOn opened = EachSettles standard (superblock_at opened) (just_opened (base_of opened) (held_at opened)) none_run []
 
 -- the marked history of the store that lines are run on follows them so, since the drives were opened as these
 pub record HasRunOn {D M : Type 0} (g : drive.Ghosts M) (opened : List M) (FollowsSo : List Mark → Type 0) (s : Run D M) : Type 0 where
@@ -70,13 +61,12 @@ pub record HasRunOn {D M : Type 0} (g : drive.Ghosts M) (opened : List M) (Follo
   pub follows : FollowsSo marks
   pub marked : IsMarked g opened marks s
 
--- The lines were run from there on. It shows what the daemons know, which run, and how they live.
+-- The lines were run from there on. It shows what the daemons know, and which run.
 pub record IsRunTo {D M : Type 0} (g : drive.Ghosts M) (from : Run D M) (lines : List Line) (s : Run D M) : Type 0 where
   pub marks : List Mark
   pub runs : RunsBy (SettlesSince from) lines marks
   pub shows : Shows g from.drives marks s
   pub running : running s ≡ running_behind lines none_run
-  pub live : Live from.system.limits (called_behind from.system.limits (superblock_of from.system.store.opened) (first_of from) none_run none_run [] lines marks runs.settles) marks s
 
 -- ---- of an outcome
 

@@ -1,4 +1,4 @@
--- What the marks of a run tell of what the migration daemon has sealed in it, and of its passes.
+-- What the marks of a run tell of what the migration daemon has sealed in it.
 use Rattle.std.specs.Prelude.{◌≡◌, ℕ, List, ◌∷◌, ◌++◌, Some}
 use Rattle.media_model.specs.Objects.{Objects}
 use Rattle.media_model.specs.declared.drive.Drive as drive
@@ -15,16 +15,9 @@ use Rattle.hsm_policy.specs.Settings.{standard}
 use Rattle.recall_daemon.specs.Known.{Known, Hand, IsNeeded}
 use Rattle.recall_daemon.specs.declared.away.Away.{Away}
 use Rattle.marked_history.specs.Marks.{Mark, made}
-use Rattle.marked_history.specs.Passing.{AllPassed}
-use Rattle.hsm_replay.specs.Passes.{CopyEnds}
 use Rattle.hsm_replay.specs.Sealed.{sealed_in, IsUnnamed, IsUnsealed, AreOfOthers, Tallies}
 use Rattle.marked_history.specs.Served.{shown, nothing_shown}
 use Rattle.hosts.specs.Hosts.{AreHanded}
-
--- of drives that were opened as these, and are these now: what was sealed is on them, and passes are as they should be
-pub record TellsOf {M : Type 0} (g : drive.Ghosts M) (opened drives : List M) (marks : List Mark) : Type 0 where
-  pub sealed : Tallies g opened drives standard marks
-  pub passes : AllPassed (CopyEnds g drives standard) standard marks
 
 -- ---- on new drives that never fail
 
@@ -46,19 +39,8 @@ pub record LosesNothing (marks : List Mark) : Type 0 where
   pub aborts : (before : List Mark) (sid : Sid) (t : Token) (reply : DmReply) (rest : List Mark) → marks ≡ before ++ made Recall sid (Respond t (Abort 2)) reply ∷ rest → NeedsUnknown (shown standard nothing_shown before).recall before
   pub damages : (before : List Mark) (sid : Sid) (t : Token) (volume object : ℕ) (want got : Fingerprint) (reply : DmReply) (rest : List Mark) → marks ≡ before ++ made Recall sid (Respond t (Media (Damaged volume object want got))) reply ∷ rest → IsUnsealed (sealed_in before) volume object want
 
--- It lost nothing, and its passes are as they should be. Of the copy that ended one early no more is said than that its segment was read, as nobody sees these
--- drives.
-pub record IsRightInMemory (marks : List Mark) : Type 0 where
-  pub loses : LosesNothing marks
-  pub passes : AllPassed (Unit {0}) standard marks
-
 -- ---- on drives of the host
 
 -- The drives are those of a folder as the host handed them out, used, and the marks tally with them.
 abbrev pub TalliesSince : {M : Type 0} → drive.Ghosts M → (ℕ → Objects → Type 0) → List M → List Mark → Type 0
 TalliesSince {M = M} g stored drives marks = (handed : List M) × AreHanded g stored standard.drives standard.volumes standard.capacity handed × Tallies g handed drives standard marks
-
--- and passes are as they should be: one is ended by a copy only on drives that may fail, or where each volume is full
-pub record IsRightInFolder {M : Type 0} (g : drive.Ghosts M) (stored : ℕ → Objects → Type 0) (drives : List M) (marks : List Mark) : Type 0 where
-  pub tallies : TalliesSince g stored drives marks
-  pub passes : AllPassed (CopyEnds g drives standard) standard marks

@@ -12,9 +12,9 @@ ghost use Rattle.script_text.specs.Scripts.{IsScript};
 ghost use Rattle.hsm_policy.specs.Settings.{standard};
 ghost use Rattle.hsm_replay.specs.Drives.{HaveGrown};
 ghost use Rattle.hsm_replay.specs.Faults.{faults_in, AreTrue};
+ghost use Rattle.hsm_replay.specs.Sealed.{Tallies};
 ghost use Rattle.hsm_system.specs.Events.{HasGrown};
 ghost use Rattle.hsm_replay.specs.Running.{IsAllDurable};
-ghost use Rattle.hsm_cli.specs.Sealing.{TellsOf};
 ghost use Rattle.hsm_cli.specs.Sources.{script_bytes, GivesFirst};
 ghost use Rattle.hsm_cli.specs.Follows.{SettlesOn};
 ghost use Rattle.hsm_cli.specs.Daemons.{ServedIsWell, ServedKeepsThroughout};
@@ -28,7 +28,7 @@ ghost use Rattle.hsm_cli.specs.Runs.{IsOpenedAnew, IsReady};
 use crate::causes::Cause;
 use crate::runs::run;
 use crate::streams::{read_all, write_all};
-use deed_laws::{is_caused, makes_anew, takes_over};
+use deed_laws::{all_passed, begins_right, is_caused, makes_anew, takes_over};
 use disk_model::Disk;
 use event_text::render;
 use file_store::{FileStore, one_recovery};
@@ -76,7 +76,7 @@ pub(crate) fn run_opened<D: Disk, M: Drive, I: Source, O: Sink>(
     requires ready { IfErr drives IsBeforeReading }
     ensures opening { result.opening.value ≡ hsm.opened }
     ensures base { result.base ≡ hsm.opened.meta.number }
-    ensures script { HasRun (SettlesOn (Some hsm.opened)) (λ marks. IfOk drives (λ ds. TellsOf M.Drive ds.items result.drives.items marks)) commits (source_told I.left I.fault_count source.old source.new) result.cause result.history }
+    ensures script { HasRun (SettlesOn (Some hsm.opened)) (λ marks. IfOk drives (λ ds. Tallies M.Drive ds.items result.drives.items standard marks)) commits (source_told I.left I.fault_count source.old source.new) result.cause result.history }
     ensures keeps { ServedKeepsThroughout (Some hsm.opened) result.history }
     ensures well { ServedIsWell (Some hsm.opened) result.history }
     ensures deeds { HasDone standard (AreDone (MayGoOnOver (Some hsm.opened)) (AreOfScript commits (I.left source.old)) result.cause) (λ deeds. MatchResult drives (λ ds. HaveGone M.Drive ds.items deeds result.drives.items) (λ why. deeds ≡ [])) result.history }
@@ -113,6 +113,8 @@ pub(crate) fn run_opened<D: Disk, M: Drive, I: Source, O: Sink>(
     is_caused();
     makes_anew();
     takes_over();
+    begins_right();
+    all_passed();
     served_keeps_all();
     punch_frees();
     let base = hsm.base();
@@ -149,7 +151,7 @@ fn run_with<D: Disk, M: Drive, I: Source>(
     requires count { IfOk drives (λ ds. length ds.items ≡ standard.drives) }
     requires ready { IfErr drives IsBeforeReading }
     ensures goes_on { HasGrown D.Disk hsm result.hsm }
-    ensures ran { HasRun (SettlesOn (Some hsm.opened)) (λ marks. IfOk drives (λ ds. TellsOf M.Drive ds.items result.drives.items marks)) commits (source_told I.left I.fault_count source.old source.new) (cause_in result.ended) result.hsm.history }
+    ensures ran { HasRun (SettlesOn (Some hsm.opened)) (λ marks. IfOk drives (λ ds. Tallies M.Drive ds.items result.drives.items standard marks)) commits (source_told I.left I.fault_count source.old source.new) (cause_in result.ended) result.hsm.history }
     ensures deeds { HasDone standard (AreDone (MayGoOnOver (Some hsm.opened)) (AreOfScript commits (I.left source.old)) (cause_in result.ended)) (λ deeds. MatchResult drives (λ ds. HaveGone M.Drive ds.items deeds result.drives.items) (λ why. deeds ≡ [])) result.hsm.history }
     ensures reading { HasRead (source_told I.left I.fault_count source.old source.new) (cause_in result.ended) }
     ensures part { GivesFirst (I.left source.old) (I.left source.new) }
@@ -191,7 +193,7 @@ fn run_script<D: Disk, M: Drive, I: Source>(
     requires ready { IsReady replay.old }
     requires limits { replay.old.system.limits ≡ standard }
     ensures goes_on { HasGrown D.Disk replay.old.system.store replay.new.system.store }
-    ensures ran { HasRun (SettlesOn (Some replay.old.system.store.opened)) (TellsOf M.Drive replay.old.drives replay.new.drives) commits (source_told I.left I.fault_count source.old source.new) (cause_in result) replay.new.system.store.history }
+    ensures ran { HasRun (SettlesOn (Some replay.old.system.store.opened)) (Tallies M.Drive replay.old.drives replay.new.drives standard) commits (source_told I.left I.fault_count source.old source.new) (cause_in result) replay.new.system.store.history }
     ensures deeds { HasDone standard (AreDone (MayGoOnOver (Some replay.old.system.store.opened)) (AreOfScript commits (I.left source.old)) (cause_in result)) (λ deeds. HaveGone M.Drive replay.old.drives deeds replay.new.drives) replay.new.system.store.history }
     ensures reading { HasRead (source_told I.left I.fault_count source.old source.new) (cause_in result) }
     ensures part { GivesFirst (I.left source.old) (I.left source.new) }

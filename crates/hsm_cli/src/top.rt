@@ -20,7 +20,7 @@ ghost use Rattle.hsm_cli.specs.Endings.{RunEnds, FormatEnds, HandingEnds, IsBefo
 ghost use Rattle.hosts.specs.Hosts.{AreHanded, HoldsAll, StoresAll};
 ghost use Rattle.hsm_cli.specs.Daemons.{KeepsThroughoutOver};
 ghost use Rattle.hsm_cli.specs.Deeds.{AreOfScript, DeedsClause, DrivesInMemory, DrivesWent, RunHasDone};
-ghost use Rattle.hsm_cli.specs.Sealing.{IsRightInMemory, IsRightInFolder};
+ghost use Rattle.hsm_cli.specs.Sealing.{LosesNothing, TalliesSince};
 ghost use Rattle.hsm_cli.specs.RunObjects.{FailsOnce, source_told, sink_told, host_told};
 
 use crate::causes::Cause;
@@ -147,7 +147,7 @@ fn replay<D: Disk, M, I: Source, O: Sink>(
     sink: &mut O,
 ) -> Outcome<D, M>
     ensures ended { result ≡ ended_with result.cause result.history None }
-    ensures script { HasRun (SettlesOn (opened_in result)) (λ marks. KeepsThroughoutOver (opened_in result) marks × IsRightInMemory marks) false (source_told I.left I.fault_count source.old source.new) result.cause result.history }
+    ensures script { HasRun (SettlesOn (opened_in result)) (λ marks. KeepsThroughoutOver (opened_in result) marks × LosesNothing marks) false (source_told I.left I.fault_count source.old source.new) result.cause result.history }
     ensures deeds { RunHasDone standard (AreOfScript false (I.left source.old)) (DrivesInMemory standard) result }
     ensures reading { HasRead (source_told I.left I.fault_count source.old source.new) result.cause }
     ensures legality { IsGoodOver {D = D} None result.history }
@@ -185,7 +185,7 @@ fn replay_store<H: Host, I: Source, O: Sink>(
 ) -> Outcome<H::Disk, H::Drive>
     ensures told { (result.status ≡ status_of result.cause) × (result.at ≡ place_of result.cause) × (result.base ≡ base_of (opened_in result)) }
     ensures command { result.cause ≢ Some Cause.WordsRefused }
-    ensures script { HasRun (SettlesOn (opened_in result)) (λ marks. KeepsThroughoutOver (opened_in result) marks × IsRightInFolder H.Drive.Drive (H.stores host.old dir.now) result.drives marks) true (source_told I.left I.fault_count source.old source.new) result.cause result.history }
+    ensures script { HasRun (SettlesOn (opened_in result)) (λ marks. KeepsThroughoutOver (opened_in result) marks × TalliesSince H.Drive.Drive (H.stores host.old dir.now) result.drives marks) true (source_told I.left I.fault_count source.old source.new) result.cause result.history }
     ensures deeds { RunHasDone standard (AreOfScript true (I.left source.old)) (DrivesWent H.Drive.Drive standard (H.stores host.old dir.now) result.drives) result }
     ensures reading { HasReadOn (opened_in result) (source_told I.left I.fault_count source.old source.new) result.cause }
     ensures legality { LegalityClause H.Disk.Disk result }

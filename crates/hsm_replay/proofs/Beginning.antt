@@ -1,5 +1,5 @@
 -- What starts and ends of daemons keep.
-use Rattle.std.proofs.Common.{◌≡◌, ◌⊎◌, ◌++◌, [], ℕ, Bool, List, Option, Some, None, IfSome, Ok, true, inl, inr, refl, sym, ap, subst, append-nil, ◌∙◌}
+use Rattle.std.proofs.Common.{◌≡◌, ◌⊎◌, ◌++◌, [], ℕ, List, Option, Some, None, IfSome, Ok, true, inl, inr, refl, sym, ap, subst, append-nil, ◌∙◌}
 use Rattle.std.specs.Option.{option_map, option_or}
 use Rattle.disk_model.specs.declared.device.Disk as disk
 use Rattle.media_model.specs.declared.drive.Drive as drive
@@ -11,7 +11,6 @@ use Rattle.hsm_types.specs.declared.daemons.Heard.{Heard}
 use Rattle.hsm_types.specs.declared.daemons.Heard.TheVariants as heard
 use Rattle.hsm_types.specs.declared.dm.DmCall.{DmCall}
 use Rattle.hsm_types.specs.declared.dm.DmCall.TheVariants as dm_call
-use Rattle.hsm_types.specs.declared.dm.DmReply.{DmReply}
 use Rattle.hsm_types.specs.declared.dm.DmReply.TheVariants as dm_reply
 use Rattle.hsm_types.specs.declared.media.Fault.{Fault}
 use Rattle.hsm_policy.specs.Settings.{Numbers}
@@ -22,22 +21,17 @@ use Rattle.migrate_daemon.specs.Known as migrate
 use Rattle.migrate_daemon.specs.Machine as migrator
 use Rattle.hsm_system.specs.Running.{Recalling, Migrating}
 use Rattle.hsm_replay.specs.Faults.{faults_in}
-use Rattle.hsm_replay.specs.Keeping.{IsAtStart, IsShownAs, RecallKnows, MigrateKnows, MigrateLives, LivesIf, LiveOn, Shows, Moves}
+use Rattle.hsm_replay.specs.Keeping.{IsAtStart, IsShownAs, RecallKnows, MigrateKnows, Shows, Moves}
 use Rattle.marked_history.specs.Marks.{Mark}
-use Rattle.hsm_replay.specs.Passes.{PassStands}
 use Rattle.deeds.specs.Lives.{untold}
 use Rattle.hsm_system.specs.declared.daemons.Next.TheVariants.{Hears}
 use Rattle.hsm_system.specs.Systems.{migrate_again}
 use Rattle.hsm_replay.specs.Sealed.{HearsLost, HearsStored}
-use Rattle.hsm_replay.specs.Filling.{FindsFull}
 use Rattle.marked_history.specs.Served.{shown, nothing_shown}
 use Rattle.hsm_replay.specs.Systems.{Run, started, killed, refreshed, told_next}
-use Rattle.hsm_replay.proofs.Filling.{full_started, full_refreshed}
 use Rattle.hsm_replay.proofs.Growing.{have_grown_itself}
 use Rattle.hsm_replay.proofs.Joining.{Settles, runs_itself}
-use Rattle.hsm_replay.proofs.Living.{live_still, starts_live, kills_live}
 use Rattle.hsm_replay.proofs.MigrateShown.{hears_same}
-use Rattle.hsm_replay.proofs.Passing.{started_stands, refreshed_stands}
 use Rattle.hsm_replay.proofs.Telling.{told_again}
 
 module _ {M : Type 0} (h : drive.Ghosts M) (k : recall.Known) (drives : List M) (faults : List Fault) where
@@ -114,26 +108,6 @@ module _ (k : migrate.Known) where
   migrate_refreshes_if None knows = tt
   migrate_refreshes_if (Some m) knows = migrate_refreshes m knows
 
--- it hears that as its last mark's answer, too
-heard_untold : (told : Heard) (reply : DmReply) → untold told ≡ heard.Dm reply → told ≡ heard.Dm reply
-heard_untold (heard.Dm (dm_reply.Space used total)) reply is = let wrong : heard.Nothing ≡ heard.Dm reply = is in absurd (cc wrong)
-heard_untold told reply is = is
-
-lives_refreshed : (marks : List Mark) (k : migrate.Known) (called : Bool) (m : Migrating) → MigrateLives marks k called m → MigrateLives marks k called (migrate_again m)
-lives_refreshed marks k called m lives = record {
-  starts = λ new. let start = lives.starts new in (start.0, start.1, told_again m.next ∙ ap untold start.2);
-  knows = λ has. subst (λ (t : Heard). IsShownAs (migrate.knows_by m.machine.limits (fresh k m.machine.known) m.machine.asked t) k) (sym (told_again m.next)) (refreshed_known k m (lives.knows has));
-  hears = λ sid call reply by is. lives.hears sid call reply by (heard_untold (told_next m.next) reply (sym (told_again m.next) ∙ is));
-  outside = lives.outside;
-}
-
-lives_refreshed_if : (marks : List Mark) (k : migrate.Known) (called : Bool) (o : Option Migrating) → LivesIf (MigrateLives marks k) called o → LivesIf (MigrateLives marks k) called (option_map migrate_again o)
-lives_refreshed_if marks k called None lives = lives
-lives_refreshed_if marks k called (Some m) lives = lives_refreshed marks k called m lives
-
-refresh_live : {D M : Type 0} (s : Run D M) (marks : List Mark) → LiveOn s (refreshed s) marks []
-refresh_live s marks = live_still s (refreshed s) marks (λ limits called same live. record { recall = live.recall; migrate = lives_refreshed_if marks (shown limits nothing_shown marks).migrate called.migrate s.system.migrate live.migrate })
-
 begun : {A : Type 0} (P : A → Type 0) (o : Option A) (x : A) → IfSome o P → P x → IfSome (option_or o (Some x)) P
 begun P None x has is = is
 begun P (Some y) x has is = has
@@ -148,59 +122,45 @@ module _ {D M : Type 0} (g : disk.Ghosts D) (h : drive.Ghosts M) where
   stored_refreshes drives None stored = tt
   stored_refreshes drives (Some m) stored = subst (λ (t : Heard). HearsStored h drives m.machine.asked t) (sym (told_again m.next)) (stored_untold drives m.machine.asked (told_next m.next) stored)
 
-  stands_refreshes : (limits : Numbers) (marks : List Mark) (o : Option Migrating) → IfSome o (PassStands limits marks) → IfSome (option_map migrate_again o) (PassStands limits marks)
-  stands_refreshes limits marks None stands = tt
-  stands_refreshes limits marks (Some m) stands = refreshed_stands limits marks m stands
-
   shows_started : (opened : List M) (marks : List Mark) (daemon : Daemon) (s : Run D M) → Shows h opened marks s → Shows h opened marks (started daemon s)
   shows_started opened marks Recall s shows = record {
-    marked = record { entries = shows.marked.entries; served = shows.marked.served; faults = shows.marked.faults; sealed = shows.marked.sealed; passes = shows.marked.passes };
+    marked = record { entries = shows.marked.entries; served = shows.marked.served; faults = shows.marked.faults; sealed = shows.marked.sealed };
     recall = recall_starts h (shown s.system.limits nothing_shown marks).recall s.drives (faults_in s.system.store.history) s.system.recall shows.recall;
     migrate = shows.migrate;
     lost = begun (λ (r : Recalling). HearsLost h opened s.drives marks r.machine.asked (told_next r.next)) s.system.recall (record { machine = recaller.started; next = Hears heard.Nothing }) shows.lost tt;
     stored = shows.stored;
-    full = shows.full;
-    passing = shows.passing;
   }
   shows_started opened marks Migrate s shows = record {
-    marked = record { entries = shows.marked.entries; served = shows.marked.served; faults = shows.marked.faults; sealed = shows.marked.sealed; passes = shows.marked.passes };
+    marked = record { entries = shows.marked.entries; served = shows.marked.served; faults = shows.marked.faults; sealed = shows.marked.sealed };
     recall = shows.recall;
     migrate = migrate_starts (shown s.system.limits nothing_shown marks).migrate s.system.limits s.system.migrate shows.migrate;
     lost = shows.lost;
     stored = begun (λ (m : Migrating). HearsStored h s.drives m.machine.asked (told_next m.next)) s.system.migrate (record { machine = migrator.started s.system.limits; next = Hears heard.Nothing }) shows.stored tt;
-    full = begun (FindsFull h s.drives s.system.limits) s.system.migrate (record { machine = migrator.started s.system.limits; next = Hears heard.Nothing }) shows.full (full_started h s.drives s.system.limits);
-    passing = begun (PassStands s.system.limits marks) s.system.migrate (record { machine = migrator.started s.system.limits; next = Hears heard.Nothing }) shows.passing (started_stands s.system.limits marks);
   }
 
   shows_killed : (opened : List M) (marks : List Mark) (daemon : Daemon) (s : Run D M) → Shows h opened marks s → Shows h opened marks (killed daemon s)
   shows_killed opened marks Recall s shows = record {
-    marked = record { entries = shows.marked.entries; served = shows.marked.served; faults = shows.marked.faults; sealed = shows.marked.sealed; passes = shows.marked.passes };
+    marked = record { entries = shows.marked.entries; served = shows.marked.served; faults = shows.marked.faults; sealed = shows.marked.sealed };
     recall = tt;
     migrate = shows.migrate;
     lost = tt;
     stored = shows.stored;
-    full = shows.full;
-    passing = shows.passing;
   }
   shows_killed opened marks Migrate s shows = record {
-    marked = record { entries = shows.marked.entries; served = shows.marked.served; faults = shows.marked.faults; sealed = shows.marked.sealed; passes = shows.marked.passes };
+    marked = record { entries = shows.marked.entries; served = shows.marked.served; faults = shows.marked.faults; sealed = shows.marked.sealed };
     recall = shows.recall;
     migrate = tt;
     lost = shows.lost;
     stored = tt;
-    full = tt;
-    passing = tt;
   }
 
   shows_refreshed : (opened : List M) (marks : List Mark) (s : Run D M) → Shows h opened marks s → Shows h opened marks (refreshed s)
   shows_refreshed opened marks s shows = record {
-    marked = record { entries = shows.marked.entries; served = shows.marked.served; faults = shows.marked.faults; sealed = shows.marked.sealed; passes = shows.marked.passes };
+    marked = record { entries = shows.marked.entries; served = shows.marked.served; faults = shows.marked.faults; sealed = shows.marked.sealed };
     recall = shows.recall;
     migrate = migrate_refreshes_if (shown s.system.limits nothing_shown marks).migrate s.system.migrate shows.migrate;
     lost = shows.lost;
     stored = stored_refreshes s.drives s.system.migrate shows.stored;
-    full = full_refreshed h s.drives s.system.limits s.system.migrate shows.full;
-    passing = stands_refreshes s.system.limits marks s.system.migrate shows.passing;
   }
 
   -- ---- no events
@@ -212,12 +172,12 @@ module _ {D M : Type 0} (g : disk.Ghosts D) (h : drive.Ghosts M) where
   still opened marks s shows = subst (λ (ms : List Mark). Shows h opened ms s) (sym (append-nil marks)) shows
 
   pub starts_moves : (daemon : Daemon) (s : Run D M) → Moves {T = Unit {0}} g h IsNone (Ok tt) s (started daemon s)
-  starts_moves Recall s = record { limits = refl; drives = have_grown_itself h s.drives; runs = runs_itself g h tt s.system.store; keeps = λ opened marks shows. ([], refl, still opened marks (started Recall s) (shows_started opened marks Recall s shows), tt, starts_live Recall s marks); ends = tt }
-  starts_moves Migrate s = record { limits = refl; drives = have_grown_itself h s.drives; runs = runs_itself g h tt s.system.store; keeps = λ opened marks shows. ([], refl, still opened marks (started Migrate s) (shows_started opened marks Migrate s shows), tt, starts_live Migrate s marks); ends = tt }
+  starts_moves Recall s = record { limits = refl; drives = have_grown_itself h s.drives; runs = runs_itself g h tt s.system.store; keeps = λ opened marks shows. ([], refl, still opened marks (started Recall s) (shows_started opened marks Recall s shows), tt); ends = tt }
+  starts_moves Migrate s = record { limits = refl; drives = have_grown_itself h s.drives; runs = runs_itself g h tt s.system.store; keeps = λ opened marks shows. ([], refl, still opened marks (started Migrate s) (shows_started opened marks Migrate s shows), tt); ends = tt }
 
   pub kills_moves : (daemon : Daemon) (s : Run D M) → Moves {T = Unit {0}} g h IsNone (Ok tt) s (killed daemon s)
-  kills_moves Recall s = record { limits = refl; drives = have_grown_itself h s.drives; runs = runs_itself g h tt s.system.store; keeps = λ opened marks shows. ([], refl, still opened marks (killed Recall s) (shows_killed opened marks Recall s shows), tt, kills_live Recall s marks); ends = tt }
-  kills_moves Migrate s = record { limits = refl; drives = have_grown_itself h s.drives; runs = runs_itself g h tt s.system.store; keeps = λ opened marks shows. ([], refl, still opened marks (killed Migrate s) (shows_killed opened marks Migrate s shows), tt, kills_live Migrate s marks); ends = tt }
+  kills_moves Recall s = record { limits = refl; drives = have_grown_itself h s.drives; runs = runs_itself g h tt s.system.store; keeps = λ opened marks shows. ([], refl, still opened marks (killed Recall s) (shows_killed opened marks Recall s shows), tt); ends = tt }
+  kills_moves Migrate s = record { limits = refl; drives = have_grown_itself h s.drives; runs = runs_itself g h tt s.system.store; keeps = λ opened marks shows. ([], refl, still opened marks (killed Migrate s) (shows_killed opened marks Migrate s shows), tt); ends = tt }
 
   pub refresh_moves : (s : Run D M) → Moves {T = Unit {0}} g h (Settles g h) (Ok tt) s (refreshed s)
-  refresh_moves s = record { limits = refl; drives = have_grown_itself h s.drives; runs = runs_itself g h tt s.system.store; keeps = λ opened marks shows. ([], tt, still opened marks (refreshed s) (shows_refreshed opened marks s shows), tt, refresh_live s marks); ends = tt }
+  refresh_moves s = record { limits = refl; drives = have_grown_itself h s.drives; runs = runs_itself g h tt s.system.store; keeps = λ opened marks shows. ([], tt, still opened marks (refreshed s) (shows_refreshed opened marks s shows), tt); ends = tt }

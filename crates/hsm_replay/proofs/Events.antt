@@ -3,7 +3,7 @@ use Rattle.std.proofs.Common.{◌≡◌, ◌≢◌, ◌∙◌, ◌⊎◌, ◌∷
 use Rattle.std.proofs.Common.{subst}
 use Rattle.disk_model.specs.declared.device.Disk as disk
 use Rattle.media_model.specs.declared.drive.Drive as drive
-use Rattle.hsm_types.specs.declared.daemons.Daemon.TheVariants.{Recall, Migrate}
+use Rattle.hsm_types.specs.declared.daemons.Daemon.TheVariants.{Recall}
 use Rattle.hsm_types.specs.declared.dm.DmCall.TheVariants.{Respond}
 use Rattle.hsm_types.specs.declared.dm.Response.TheVariants.{Continue, Abort, Media}
 use Rattle.hsm_types.specs.declared.media.Fault.{Fault}
@@ -27,15 +27,11 @@ use Rattle.hsm_system.specs.declared.stops.Stop.{Stop}
 use Rattle.hsm_system.proofs.AfterEvents.{event_kept_or_not}
 use Rattle.hsm_replay.specs.Doing.{Does}
 use Rattle.hsm_replay.specs.Faults.{fault_in, faults_in, AreTrue}
-use Rattle.hsm_replay.specs.Keeping.{RecallKnows, MigrateKnows, IsMarked, Shows, Moves, LiveUntil}
-use Rattle.hsm_replay.specs.Passes.{CopyEnds}
+use Rattle.hsm_replay.specs.Keeping.{RecallKnows, MigrateKnows, IsMarked, Shows, Moves}
 use Rattle.hsm_replay.specs.Systems.{Run, running}
 use Rattle.hsm_replay.specs.Turns.{MayResume}
 use Rattle.hsm_replay.proofs.Growing.{have_grown_itself}
-use Rattle.hsm_replay.proofs.Living.{none_until, no_call_until, event_lives}
 use Rattle.hsm_replay.proofs.Marked.{shown_more, marked_more, marked_still, no_fault_more}
-use Rattle.hsm_replay.proofs.PassMarks.{all_passed_by_other}
-use Rattle.hsm_replay.proofs.Passing.{other_stands_if}
 use Rattle.hsm_replay.proofs.Sealing.{tallies_by_other, lost_more_if}
 
 -- ---- entries
@@ -96,12 +92,8 @@ module _ {D M : Type 0} (g : disk.Ghosts D) (h : drive.Ghosts M) (old : Run D M)
     not_recall : mark.by ≢ Some Recall
     not_recall is = let wrong : None ≡ Some Recall = is in cc wrong
 
-    not_migrate : mark.by ≢ Some Migrate
-    not_migrate is = let wrong : None ≡ Some Migrate = is in cc wrong
-
     marked : IsMarked h opened (marks ++ mark ∷ []) after
     marked = marked_more h opened marks mark old after shows.marked refl kept none (subst (λ (fs : List Fault). AreTrue h old.drives fs) (sym same_faults) shows.marked.faults) (tallies_by_other h opened old.drives old.system.limits marks shows.marked.sealed mark not_recall tt)
-        (all_passed_by_other (CopyEnds h old.drives old.system.limits) old.system.limits marks mark shows.marked.passes not_migrate)
 
     shows_on : Shows h opened (marks ++ mark ∷ []) after
     shows_on = record {
@@ -111,20 +103,18 @@ module _ {D M : Type 0} (g : disk.Ghosts D) (h : drive.Ghosts M) (old : Run D M)
       migrate = subst (λ (k : Shown). IfSome old.system.migrate (MigrateKnows k.migrate)) (sym (shown_more old.system.limits nothing_shown marks mark)) shows.migrate;
       lost = lost_more_if h opened old.drives marks mark old.system.recall not_recall shows.lost;
       stored = shows.stored;
-      full = shows.full;
-      passing = other_stands_if old.system.limits marks old.system.migrate mark not_migrate shows.passing;
     }
 
-  ended : (opened : List M) (marks : List Mark) → Shows h opened marks old → (store.history ≡ old.system.store.history) ⊎ (store.history ≡ old.system.store.history ++ entry_of actor action given ∷ []) → (more : List Mark) × (IsEventOf actor action more ⊎ (more ≡ [])) × IsMarked h opened (marks ++ more) after × AreByRunning (running old) more × LiveUntil old marks more
-  ended opened marks shows (inl same) = ([], inr refl, marked_still h opened marks old after shows.marked refl same (have_grown_itself h old.drives), tt, none_until old marks)
-  ended opened marks shows (inr kept) = (mark ∷ [], inl (given, refl), marked opened marks shows kept, (tt, tt), no_call_until old marks mark refl)
+  ended : (opened : List M) (marks : List Mark) → Shows h opened marks old → (store.history ≡ old.system.store.history) ⊎ (store.history ≡ old.system.store.history ++ entry_of actor action given ∷ []) → (more : List Mark) × (IsEventOf actor action more ⊎ (more ≡ [])) × IsMarked h opened (marks ++ more) after × AreByRunning (running old) more
+  ended opened marks shows (inl same) = ([], inr refl, marked_still h opened marks old after shows.marked refl same (have_grown_itself h old.drives), tt)
+  ended opened marks shows (inr kept) = (mark ∷ [], inl (given, refl), marked opened marks shows kept, (tt, tt))
 
   moves_by : (result : Result (Unit {0}) Stop) → Runs g result old.system.store store → OnOk result (store.history ≡ old.system.store.history ++ entry_of actor action given ∷ []) → (store.history ≡ old.system.store.history) ⊎ (store.history ≡ old.system.store.history ++ entry_of actor action given ∷ []) → Moves g h (IsEventOf actor action) result old after
   moves_by (Ok tt) runs kept may = record {
     limits = refl;
     drives = have_grown_itself h old.drives;
     runs = runs;
-    keeps = λ opened marks shows. (mark ∷ [], (given, refl), shows_on opened marks shows kept, (tt, tt), event_lives old store marks mark refl (λ limits k. refl));
+    keeps = λ opened marks shows. (mark ∷ [], (given, refl), shows_on opened marks shows kept, (tt, tt));
     ends = tt;
   }
   moves_by (Err why) runs kept may = record {

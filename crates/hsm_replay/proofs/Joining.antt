@@ -19,7 +19,6 @@ use Rattle.hsm_replay.proofs.Events.{IsEventOf}
 use Rattle.hsm_system.proofs.AfterEvents.{goes_itself, goes_then, stopped_then}
 use Rattle.hsm_replay.proofs.Growing.{have_grown_itself, have_grown_on}
 use Rattle.marked_history.proofs.Lists.{all_weaker, all_then}
-use Rattle.hsm_replay.proofs.Living.{live_itself, live_then, live_until}
 
 -- ---- some marks or none
 
@@ -39,19 +38,19 @@ module _ {D M : Type 0} (g : disk.Ghosts D) (h : drive.Ghosts M) where
   Settles marks = AllByRecursion IsOfSettling marks
 
   pub keeps_itself : {P : Mark → Type 0} (s : Run D M) → GrowsBy h (AllByRecursion P) s s
-  keeps_itself s opened marks shows = ([], tt, subst (λ (ms : List Mark). Shows h opened ms s) (sym (append-nil marks)) shows, tt, live_itself s marks)
+  keeps_itself s opened marks shows = ([], tt, subst (λ (ms : List Mark). Shows h opened ms s) (sym (append-nil marks)) shows, tt)
 
   pub keeps_then : {P : Mark → Type 0} (a b c : Run D M) → running b ≡ running a → GrowsBy h (AllByRecursion P) a b → GrowsBy h (AllByRecursion P) b c → GrowsBy h (AllByRecursion P) a c
   keeps_then {P = P} a b c same first then opened marks shows =
       let one = first opened marks shows in
       let two = then opened (marks ++ one.0) one.2 in
-      (one.0 ++ two.0, all_then P one.0 two.0 one.1 two.1, subst (λ (ms : List Mark). Shows h opened ms c) (append_assoc marks one.0 two.0) two.2, by_running_then (running a) (running b) one.0 two.0 same one.3 two.3, live_then a b c marks one.0 two.0 same one.4 two.4)
+      (one.0 ++ two.0, all_then P one.0 two.0 one.1 two.1, subst (λ (ms : List Mark). Shows h opened ms c) (append_assoc marks one.0 two.0) two.2, by_running_then (running a) (running b) one.0 two.0 same one.3 two.3)
 
   pub ends_then : {P : Mark → Type 0} (a b c : Run D M) → running b ≡ running a → GrowsBy h (AllByRecursion P) a b → Ends h (AllByRecursion P) b c → Ends h (AllByRecursion P) a c
   ends_then {P = P} a b c same first then opened marks shows =
       let one = first opened marks shows in
       let two = then opened (marks ++ one.0) one.2 in
-      (one.0 ++ two.0, inl (all_then P one.0 two.0 one.1 (some_or_none P two.0 two.1)), subst (λ (ms : List Mark). IsMarked h opened ms c) (append_assoc marks one.0 two.0) two.2, by_running_then (running a) (running b) one.0 two.0 same one.3 two.3, live_until a b marks one.0 two.0 same one.4 two.4)
+      (one.0 ++ two.0, inl (all_then P one.0 two.0 one.1 (some_or_none P two.0 two.1)), subst (λ (ms : List Mark). IsMarked h opened ms c) (append_assoc marks one.0 two.0) two.2, by_running_then (running a) (running b) one.0 two.0 same one.3 two.3)
 
   -- ---- runs
 
@@ -92,13 +91,13 @@ module _ {D M : Type 0} (g : disk.Ghosts D) (h : drive.Ghosts M) where
 
   -- the same entries, of another kind
   pub moves_as : {T : Type 0} (P Q : List Mark → Type 0) (result : Result T Stop) (a b : Run D M) → ((more : List Mark) → P more → Q more) → Moves g h P result a b → Moves g h Q result a b
-  moves_as P Q (Ok x) a b so moves = record { limits = moves.limits; drives = moves.drives; runs = moves.runs; keeps = λ opened marks shows. let one = moves.keeps opened marks shows in (one.0, so one.0 one.1, one.2, one.3, one.4); ends = tt }
+  moves_as P Q (Ok x) a b so moves = record { limits = moves.limits; drives = moves.drives; runs = moves.runs; keeps = λ opened marks shows. let one = moves.keeps opened marks shows in (one.0, so one.0 one.1, one.2, one.3); ends = tt }
   moves_as P Q (Err why) a b so moves = record {
     limits = moves.limits;
     drives = moves.drives;
     runs = moves.runs;
     keeps = tt;
-    ends = λ opened marks shows. let one = moves.ends opened marks shows in (one.0, some_or_not P Q so one.0 one.1, one.2, one.3, one.4);
+    ends = λ opened marks shows. let one = moves.ends opened marks shows in (one.0, some_or_not P Q so one.0 one.1, one.2, one.3);
   }
 
   -- ---- a step is a daemon's, and a turn one of settling

@@ -17,17 +17,11 @@ pub mod Growing
 mod Fetching
 pub mod Sealing
 pub mod Filling
-pub mod PassMarks
-mod Passing
-mod PassCopies
 mod Marked
 mod SessionCalls
 mod RecallShown
 mod MigrateShown
-mod OneWay
 mod Stepping
-mod RightCalls
-mod Living
 mod Moves
 mod Events
 pub mod Joining

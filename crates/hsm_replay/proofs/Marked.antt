@@ -17,14 +17,11 @@ use Rattle.hsm_system.specs.Running.{Recalling}
 use Rattle.hsm_replay.specs.Drives.{HaveGrown}
 use Rattle.hsm_replay.specs.Faults.{fault_in, faults_in, IsApart, AreTrue}
 use Rattle.marked_history.specs.Marks.{Mark, entries_of}
-use Rattle.marked_history.specs.Passing.{AllPassed}
-use Rattle.hsm_replay.specs.Passes.{CopyEnds}
 use Rattle.hsm_replay.specs.Sealed.{Tallies}
 use Rattle.marked_history.specs.Served.{Shown, learned, shown, nothing_shown, IsServedBy, ServedFrom, Served}
 use Rattle.hsm_replay.specs.Keeping.{IsHeardOf, RecallKnows, IsMarked}
 use Rattle.hsm_replay.specs.Systems.{Run, told_next}
 use Rattle.hsm_replay.proofs.Growing.{still_true, are_true, grown_count}
-use Rattle.hsm_replay.proofs.PassCopies.{all_passed_still}
 use Rattle.hsm_replay.proofs.Sealing.{tallies_still}
 
 -- ---- one entry more
@@ -60,15 +57,14 @@ fault_more history e fault is = faults_more history e ∙ ap (λ (fs : List Faul
 -- ---- what a history shows
 
 module _ {D M : Type 0} (g : drive.Ghosts M) where
-  -- With an entry more it is marked, where that entry is served, its fault is true, what was sealed is on the drives, and each pass is as it should be.
+  -- With an entry more it is marked, where that entry is served, its fault is true, and what was sealed is on the drives.
   pub marked_more : (opened : List M) (marks : List Mark) (m : Mark) (old new : Run D M) → IsMarked g opened marks old → new.system.limits ≡ old.system.limits → new.system.store.history ≡ old.system.store.history ++ m.entry ∷ [] → IsServedBy m.by (shown old.system.limits nothing_shown marks) m → AreTrue g new.drives (faults_in new.system.store.history)
-      → Tallies g opened new.drives new.system.limits (marks ++ m ∷ []) → AllPassed (CopyEnds g new.drives new.system.limits) new.system.limits (marks ++ m ∷ []) → IsMarked g opened (marks ++ m ∷ []) new
-  marked_more opened marks m old new marked limits history served faults sealed passes = record {
+      → Tallies g opened new.drives new.system.limits (marks ++ m ∷ []) → IsMarked g opened (marks ++ m ∷ []) new
+  marked_more opened marks m old new marked limits history served faults sealed = record {
     entries = entries_more marks m ∙ ap (λ (es : List Entry). es ++ m.entry ∷ []) marked.entries ∙ sym history;
     served = subst (λ (l : Numbers). Served l (marks ++ m ∷ [])) (sym limits) (served_more old.system.limits nothing_shown marks m marked.served served);
     faults = faults;
     sealed = sealed;
-    passes = passes;
   }
 
   -- Where no entry came it is marked as before, though drives were used.
@@ -78,7 +74,6 @@ module _ {D M : Type 0} (g : drive.Ghosts M) where
     served = subst (λ (l : Numbers). Served l (marks ++ [])) (sym limits) (subst (λ (ms : List Mark). Served old.system.limits ms) (sym (append-nil marks)) marked.served);
     faults = subst (λ (es : List Entry). AreTrue g new.drives (faults_in es)) (sym history) (are_true g old.drives new.drives (faults_in old.system.store.history) grown marked.faults);
     sealed = subst (λ (l : Numbers). Tallies g opened new.drives l (marks ++ [])) (sym limits) (subst (λ (ms : List Mark). Tallies g opened new.drives old.system.limits ms) (sym (append-nil marks)) (tallies_still g opened old.drives new.drives old.system.limits marks grown marked.sealed));
-    passes = subst (λ (l : Numbers). AllPassed (CopyEnds g new.drives l) l (marks ++ [])) (sym limits) (subst (λ (ms : List Mark). AllPassed (CopyEnds g new.drives old.system.limits) old.system.limits ms) (sym (append-nil marks)) (all_passed_still g old.drives new.drives old.system.limits marks grown marked.passes));
   }
 
 module _ {M : Type 0} (g : drive.Ghosts M) where

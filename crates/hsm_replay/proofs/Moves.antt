@@ -1,5 +1,5 @@
 -- What a step of a daemon comes to, and what stops it.
-use Rattle.std.proofs.Common.{◌≡◌, ◌∙◌, ◌⊎◌, ◌∷◌, ◌++◌, [], ℕ, true, List, Option, Some, is_some, Result, Ok, Err, OnOk, IfErr, inl, inr, refl, sym}
+use Rattle.std.proofs.Common.{◌≡◌, ◌∙◌, ◌⊎◌, ◌∷◌, ◌++◌, [], ℕ, List, Option, Some, is_some, Result, Ok, Err, OnOk, IfErr, inl, inr, refl, sym}
 use Rattle.std.proofs.Common.{ap, subst, append-nil}
 use Rattle.std.specs.Prelude.{slice_set}
 use Rattle.disk_model.specs.declared.device.Disk as disk
@@ -34,7 +34,7 @@ use Rattle.hsm_replay.specs.Acts.{Performs, Stops, FetchesFrom, CopiesTo}
 use Rattle.hsm_replay.specs.Drives.{HasGrown, HaveGrown}
 use Rattle.marked_history.specs.Follows.{IsStepOf}
 use Rattle.hsm_replay.specs.Faults.{faults_in}
-use Rattle.hsm_replay.specs.Keeping.{IsMarked, Shows, Moves, LiveUntil}
+use Rattle.hsm_replay.specs.Keeping.{IsMarked, Shows, Moves}
 use Rattle.marked_history.specs.Marks.{Mark, made}
 use Rattle.hsm_system.specs.Events.{Runs}
 use Rattle.hsm_replay.specs.Steps.{Steps, Halts}
@@ -42,11 +42,7 @@ use Rattle.marked_history.specs.Settling.{AreByRunning}
 use Rattle.marked_history.specs.Waiting.{runs}
 use Rattle.hsm_replay.specs.Systems.{Run, drive_of, running, told_next}
 use Rattle.hsm_replay.proofs.Fetching.{heard_of_fetch}
-use Rattle.hsm_replay.proofs.Filling.{full_of_copy}
-use Rattle.hsm_replay.proofs.PassCopies.{names_copy}
 use Rattle.hsm_replay.proofs.Growing.{have_grown_itself, grown_at, reads_grow, grows_grow}
-use Rattle.hsm_replay.proofs.Living.{live_itself, none_until, recall_calls_live, recall_calls_until, recall_went_live, migrate_calls_live}
-use Rattle.hsm_replay.proofs.Living.{migrate_calls_until, migrate_went_live}
 use Rattle.hsm_replay.proofs.Marked.{marked_still}
 use Rattle.hsm_replay.proofs.ActSteps.{recall_waits, migrate_waits, recall_left, migrate_left, recall_acts, migrate_acts, recall_stops, migrate_stops}
 use Rattle.hsm_replay.proofs.ActSteps.{recall_behind_call, recall_behind_fetch, recall_behind_stop, migrate_behind_call, migrate_behind_copy, migrate_behind_stop}
@@ -68,8 +64,8 @@ module _ {D M : Type 0} (g : disk.Ghosts D) (h : drive.Ghosts M) where
   Stopped daemon why old new = Moves {T = Unit {0}} g h (IsStepOf daemon) (Err why) old new
 
   -- where no entry came the history is marked as before
-  no_more : (IsPart : List Mark → Type 0) (opened : List M) (marks : List Mark) (old new : Run D M) → Shows h opened marks old → new.system.limits ≡ old.system.limits → new.system.store.history ≡ old.system.store.history → HaveGrown h old.drives new.drives → (more : List Mark) × (IsPart more ⊎ (more ≡ [])) × IsMarked h opened (marks ++ more) new × AreByRunning (running old) more × LiveUntil old marks more
-  no_more IsPart opened marks old new shows limits history grown = ([], inr refl, marked_still h opened marks old new shows.marked limits history grown, tt, none_until old marks)
+  no_more : (IsPart : List Mark → Type 0) (opened : List M) (marks : List Mark) (old new : Run D M) → Shows h opened marks old → new.system.limits ≡ old.system.limits → new.system.store.history ≡ old.system.store.history → HaveGrown h old.drives new.drives → (more : List Mark) × (IsPart more ⊎ (more ≡ [])) × IsMarked h opened (marks ++ more) new × AreByRunning (running old) more
+  no_more IsPart opened marks old new shows limits history grown = ([], inr refl, marked_still h opened marks old new shows.marked limits history grown, tt)
 
   -- the call of a daemon that the store answered
   served_runs : {T : Type 0} (x : T) (sid : Sid) (asked : DmCall) (reply : DmReply) (old left : System D) → Serves g sid asked reply old left → Runs g (Ok x) old.store left.store
@@ -91,7 +87,7 @@ module _ {D M : Type 0} (g : disk.Ghosts D) (h : drive.Ghosts M) where
           limits = refl;
           drives = have_grown_itself h old.drives;
           runs = served_runs tt sid asked reply (recall_waits old machine (Dm sid asked)).system left serves;
-          keeps = λ opened marks shows. (made Recall sid asked reply ∷ [], inr (made Recall sid asked reply, refl, (sid, asked, reply, refl)), recall_called h opened marks old shows r machine runs sid asked reply goes left.store serves.added, (ap (λ (o : Option Recalling). is_some o) runs, tt), recall_calls_live h opened marks old shows r machine runs sid asked reply goes left.store);
+          keeps = λ opened marks shows. (made Recall sid asked reply ∷ [], inr (made Recall sid asked reply, refl, (sid, asked, reply, refl)), recall_called h opened marks old shows r machine runs sid asked reply goes left.store serves.added, (ap (λ (o : Option Recalling). is_some o) runs, tt));
           ends = tt;
         })
     recall_by (Copy volume handle segment bytes) goes performs = absurd goes.may
@@ -103,7 +99,7 @@ module _ {D M : Type 0} (g : disk.Ghosts D) (h : drive.Ghosts M) where
           limits = refl;
           drives = grown;
           runs = rest_runs tt old.system.store;
-          keeps = λ opened marks shows. ([], inl refl, recall_went h opened marks old shows r machine runs (Fetch entry) (heard.Fetched performs.0) tt goes drives grown (heard_of_fetch h old.drives entry on.0 on.1 on.2 (faults_in old.system.store.history) shows.marked.faults.each performs.0 on.3) (heard_of_missing h opened old.drives old.system.limits marks shows.marked.sealed entry on.0 on.1 on.2 performs.0 on.3), tt, recall_went_live h opened marks old shows r machine runs (Fetch entry) (heard.Fetched performs.0) tt goes drives);
+          keeps = λ opened marks shows. ([], inl refl, recall_went h opened marks old shows r machine runs (Fetch entry) (heard.Fetched performs.0) tt goes drives grown (heard_of_fetch h old.drives entry on.0 on.1 on.2 (faults_in old.system.store.history) shows.marked.faults.each performs.0 on.3) (heard_of_missing h opened old.drives old.system.limits marks shows.marked.sealed entry on.0 on.1 on.2 performs.0 on.3), tt);
           ends = tt;
         })
     recall_by Idle goes performs =
@@ -112,13 +108,13 @@ module _ {D M : Type 0} (g : disk.Ghosts D) (h : drive.Ghosts M) where
           limits = refl;
           drives = have_grown_itself h old.drives;
           runs = rest_runs tt old.system.store;
-          keeps = λ opened marks shows. ([], inl refl, recall_went h opened marks old shows r machine runs Idle heard.Nothing tt goes old.drives (have_grown_itself h old.drives) tt tt, tt, recall_went_live h opened marks old shows r machine runs Idle heard.Nothing tt goes old.drives);
+          keeps = λ opened marks shows. ([], inl refl, recall_went h opened marks old shows r machine runs Idle heard.Nothing tt goes old.drives (have_grown_itself h old.drives) tt tt, tt);
           ends = tt;
         })
 
   -- ---- migration
 
-  module _ (old : Run D M) (m : Migrating) (machine : migrator.Machine) (runs : old.system.migrate ≡ Some m) (new : Run D M) (law : h.sure ≡ true → (d : M) → h.fault_count d ≡ 0) where
+  module _ (old : Run D M) (m : Migrating) (machine : migrator.Machine) (runs : old.system.migrate ≡ Some m) (new : Run D M) where
     migrate_by : (act : Act) → migrator.StepsOn m.machine (told_next m.next) act machine → Performs g h Migrate (migrate_waits old machine act) act new → Moved Migrate old new
     migrate_by (Dm sid asked) goes performs =
         let reply : DmReply = performs.0.0 in
@@ -128,7 +124,7 @@ module _ {D M : Type 0} (g : disk.Ghosts D) (h : drive.Ghosts M) where
           limits = refl;
           drives = have_grown_itself h old.drives;
           runs = served_runs tt sid asked reply (migrate_waits old machine (Dm sid asked)).system left serves;
-          keeps = λ opened marks shows. (made Migrate sid asked reply ∷ [], inr (made Migrate sid asked reply, refl, (sid, asked, reply, refl)), migrate_called h opened marks old shows m machine runs sid asked reply goes left.store serves.added, (ap (λ (o : Option Migrating). is_some o) runs, tt), migrate_calls_live marks old m machine runs sid asked reply goes left.store);
+          keeps = λ opened marks shows. (made Migrate sid asked reply ∷ [], inr (made Migrate sid asked reply, refl, (sid, asked, reply, refl)), migrate_called h opened marks old shows m machine runs sid asked reply goes left.store serves.added, (ap (λ (o : Option Migrating). is_some o) runs, tt));
           ends = tt;
         })
     migrate_by (Copy volume handle segment bytes) goes performs =
@@ -139,7 +135,7 @@ module _ {D M : Type 0} (g : disk.Ghosts D) (h : drive.Ghosts M) where
           limits = refl;
           drives = grown;
           runs = rest_runs tt old.system.store;
-          keeps = λ opened marks shows. ([], inl refl, migrate_went h opened marks old shows m machine runs (Copy volume handle segment bytes) (heard.Copied performs.0) tt (names_copy h volume handle segment bytes performs.0 on.0 on.1 on.3) goes drives grown (heard_of_copy h old.drives volume segment handle bytes on.0 on.1 on.2 performs.0 on.3) (full_of_copy h law old.drives volume segment handle bytes goes.may.2.5 on.0 on.1 on.2 performs.0 on.3), tt, migrate_went_live marks old m machine runs (Copy volume handle segment bytes) (heard.Copied performs.0) tt goes drives);
+          keeps = λ opened marks shows. ([], inl refl, migrate_went h opened marks old shows m machine runs (Copy volume handle segment bytes) (heard.Copied performs.0) tt goes drives grown (heard_of_copy h old.drives volume segment handle bytes on.0 on.1 on.2 performs.0 on.3), tt);
           ends = tt;
         })
     migrate_by (Fetch entry) goes performs = absurd goes.may
@@ -149,22 +145,22 @@ module _ {D M : Type 0} (g : disk.Ghosts D) (h : drive.Ghosts M) where
           limits = refl;
           drives = have_grown_itself h old.drives;
           runs = rest_runs tt old.system.store;
-          keeps = λ opened marks shows. ([], inl refl, migrate_went h opened marks old shows m machine runs Idle heard.Nothing tt tt goes old.drives (have_grown_itself h old.drives) tt tt, tt, migrate_went_live marks old m machine runs Idle heard.Nothing tt goes old.drives);
+          keeps = λ opened marks shows. ([], inl refl, migrate_went h opened marks old shows m machine runs Idle heard.Nothing tt goes old.drives (have_grown_itself h old.drives) tt, tt);
           ends = tt;
         })
 
   -- ---- a step
 
-  step_moved : (law : h.sure ≡ true → (d : M) → h.fault_count d ≡ 0) (daemon : Daemon) (old new : Run D M) → Steps g h daemon old new → Moved daemon old new
-  step_moved law daemon old new (inl down) = subst (λ (s : Run D M). Moved daemon old s) (sym down.1) (record {
+  step_moved : (daemon : Daemon) (old new : Run D M) → Steps g h daemon old new → Moved daemon old new
+  step_moved daemon old new (inl down) = subst (λ (s : Run D M). Moved daemon old s) (sym down.1) (record {
     limits = refl;
     drives = have_grown_itself h old.drives;
     runs = rest_runs tt old.system.store;
-    keeps = λ opened marks shows. ([], inl refl, subst (λ (ms : List Mark). Shows h opened ms old) (sym (append-nil marks)) shows, tt, live_itself old marks);
+    keeps = λ opened marks shows. ([], inl refl, subst (λ (ms : List Mark). Shows h opened ms old) (sym (append-nil marks)) shows, tt);
     ends = tt;
   })
-  step_moved law Recall old new (inr acts) = let by = recall_acts g h old new acts in recall_by old by.before by.machine by.runs new by.act by.goes by.performs
-  step_moved law Migrate old new (inr acts) = let by = migrate_acts g h old new acts in migrate_by old by.before by.machine by.runs new law by.act by.goes by.performs
+  step_moved Recall old new (inr acts) = let by = recall_acts g h old new acts in recall_by old by.before by.machine by.runs new by.act by.goes by.performs
+  step_moved Migrate old new (inr acts) = let by = migrate_acts g h old new acts in migrate_by old by.before by.machine by.runs new by.act by.goes by.performs
 
   -- ---- a step that is stopped
 
@@ -200,12 +196,12 @@ module _ {D M : Type 0} (g : disk.Ghosts D) (h : drive.Ghosts M) where
         ends = λ opened marks shows. kept opened marks shows left.store why call.kept;
       })
     where
-      kept : (opened : List M) (marks : List Mark) → Shows h opened marks old → (store : Store D) (why : Stop) → KeepsStop sid asked why old.system.store store → (more : List Mark) × (IsStepOf Recall more ⊎ (more ≡ [])) × IsMarked h opened (marks ++ more) (recall_left old machine heard.Nothing store old.drives) × AreByRunning (running old) more × LiveUntil old marks more
+      kept : (opened : List M) (marks : List Mark) → Shows h opened marks old → (store : Store D) (why : Stop) → KeepsStop sid asked why old.system.store store → (more : List Mark) × (IsStepOf Recall more ⊎ (more ≡ [])) × IsMarked h opened (marks ++ more) (recall_left old machine heard.Nothing store old.drives) × AreByRunning (running old) more
       kept opened marks shows store stop.Memory keeps = no_more (IsStepOf Recall) opened marks old (recall_left old machine heard.Nothing store old.drives) shows refl keeps.1 (have_grown_itself h old.drives)
       kept opened marks shows store stop.Disk (failed, inl closed) = no_more (IsStepOf Recall) opened marks old (recall_left old machine heard.Nothing store old.drives) shows refl closed.1 (have_grown_itself h old.drives)
       kept opened marks shows store stop.Disk (failed, inr working) =
           let m : Mark = made Recall sid asked (reply_of stop.Disk) in
-          (m ∷ [], inl (inr (m, refl, (sid, asked, reply_of stop.Disk, refl))), recall_marked h opened marks old shows r machine runs sid asked (reply_of stop.Disk) goes heard.Nothing store working.1, (ap (λ (o : Option Recalling). is_some o) runs, tt), recall_calls_until h opened marks old shows r machine runs sid asked (reply_of stop.Disk) goes)
+          (m ∷ [], inl (inr (m, refl, (sid, asked, reply_of stop.Disk, refl))), recall_marked h opened marks old shows r machine runs sid asked (reply_of stop.Disk) goes heard.Nothing store working.1, (ap (λ (o : Option Recalling). is_some o) runs, tt))
   recall_stopped old new r machine runs why (Copy volume handle segment bytes) goes stops = absurd goes.may
   recall_stopped old new r machine runs why (Fetch entry) goes stops =
       let is = stops.1 in
@@ -226,12 +222,12 @@ module _ {D M : Type 0} (g : disk.Ghosts D) (h : drive.Ghosts M) where
         ends = λ opened marks shows. kept opened marks shows left.store why call.kept;
       })
     where
-      kept : (opened : List M) (marks : List Mark) → Shows h opened marks old → (store : Store D) (why : Stop) → KeepsStop sid asked why old.system.store store → (more : List Mark) × (IsStepOf Migrate more ⊎ (more ≡ [])) × IsMarked h opened (marks ++ more) (migrate_left old machine heard.Nothing store old.drives) × AreByRunning (running old) more × LiveUntil old marks more
+      kept : (opened : List M) (marks : List Mark) → Shows h opened marks old → (store : Store D) (why : Stop) → KeepsStop sid asked why old.system.store store → (more : List Mark) × (IsStepOf Migrate more ⊎ (more ≡ [])) × IsMarked h opened (marks ++ more) (migrate_left old machine heard.Nothing store old.drives) × AreByRunning (running old) more
       kept opened marks shows store stop.Memory keeps = no_more (IsStepOf Migrate) opened marks old (migrate_left old machine heard.Nothing store old.drives) shows refl keeps.1 (have_grown_itself h old.drives)
       kept opened marks shows store stop.Disk (failed, inl closed) = no_more (IsStepOf Migrate) opened marks old (migrate_left old machine heard.Nothing store old.drives) shows refl closed.1 (have_grown_itself h old.drives)
       kept opened marks shows store stop.Disk (failed, inr working) =
           let one : Mark = made Migrate sid asked (reply_of stop.Disk) in
-          (one ∷ [], inl (inr (one, refl, (sid, asked, reply_of stop.Disk, refl))), migrate_marked h opened marks old shows m machine runs sid asked (reply_of stop.Disk) goes heard.Nothing store working.1, (ap (λ (o : Option Migrating). is_some o) runs, tt), migrate_calls_until marks old m machine runs sid asked (reply_of stop.Disk) goes)
+          (one ∷ [], inl (inr (one, refl, (sid, asked, reply_of stop.Disk, refl))), migrate_marked h opened marks old shows m machine runs sid asked (reply_of stop.Disk) goes heard.Nothing store working.1, (ap (λ (o : Option Migrating). is_some o) runs, tt))
   migrate_stopped old new m machine runs why (Copy volume handle segment bytes) goes stops =
       let is = stops.1 in
       let on = stops.2 in
@@ -252,6 +248,6 @@ module _ {D M : Type 0} (g : disk.Ghosts D) (h : drive.Ghosts M) where
   step_stopped Recall old new why (inr stopped) = let by = recall_stops g h old why new stopped in recall_stopped old new by.before by.machine by.runs why by.act by.goes by.stops
   step_stopped Migrate old new why (inr stopped) = let by = migrate_stops g h old why new stopped in migrate_stopped old new by.before by.machine by.runs why by.act by.goes by.stops
 
-  pub step_moves : (law : h.sure ≡ true → (d : M) → h.fault_count d ≡ 0) (daemon : Daemon) (result : Result (Unit {0}) Stop) (old new : Run D M) → OnOk result (Steps g h daemon old new) → IfErr result (λ why. Halts g h daemon old why new) → Moves g h (IsStepOf daemon) result old new
-  step_moves law daemon (Ok tt) old new steps halts = step_moved law daemon old new steps
-  step_moves law daemon (Err why) old new steps halts = step_stopped daemon old new why halts
+  pub step_moves : (daemon : Daemon) (result : Result (Unit {0}) Stop) (old new : Run D M) → OnOk result (Steps g h daemon old new) → IfErr result (λ why. Halts g h daemon old why new) → Moves g h (IsStepOf daemon) result old new
+  step_moves daemon (Ok tt) old new steps halts = step_moved daemon old new steps
+  step_moves daemon (Err why) old new steps halts = step_stopped daemon old new why halts

@@ -22,7 +22,6 @@ use Rattle.hsm_system.specs.declared.stops.Stop.{Stop}
 use Rattle.hsm_system.specs.declared.stops.Stop.TheVariants as stop
 use Rattle.hsm_replay.specs.Acts.{OnDriveOf, CopiesTo, FetchesFrom, ComesOfCopy, ComesOfFetch}
 use Rattle.hsm_replay.specs.Systems.{drive_of}
-use Rattle.hsm_replay.proofs.PassCopies.{names_copy}
 
 -- the drive of that number was lent to what changed it
 pub on_drive : {M : Type 0} (volume number : ℕ) (changes : M → M → Type 0) (drives : List M) (x y : M) → number ≡ drive_of volume drives → number < length drives → x ≡ get_or drives number x → changes x y
@@ -35,7 +34,7 @@ module _ {M : Type 0} (g : drive.Ghosts M) (x y : M) where
 
   module _ (volume : ℕ) (handle : Handle) (segment : ℕ) (bytes : List ℕ) where
     pub copy_so : (answer : Result StubEntry CopyRefusal) → CopiesTo g volume handle segment bytes answer x y → answer ≢ Err copying.Memory → IsSo (outcome.Copied volume handle segment (print_of bytes) answer)
-    copy_so (Ok entry) copies some = let named = names_copy g volume handle segment bytes (Ok entry) x y copies in (named.1, named.0)
+    copy_so (Ok entry) copies some = (copies.0.on, copies.0.print)
     copy_so (Err (copying.Damaged want got)) copies some = (copies.0.1, copies.0.2)
     copy_so (Err (copying.Failed before after)) copies some = copies.0.2
     copy_so (Err (copying.Full used len capacity)) copies some = copies.0.3

@@ -46,13 +46,12 @@ use Rattle.migrate_daemon.specs.declared.shares.Space.{Space}
 use Rattle.migrate_daemon.specs.Shares.{is_above}
 use Rattle.hsm_system.specs.Running.{Recalling, Migrating}
 use Rattle.hsm_system.specs.declared.stops.Stop.{Stop}
-use Rattle.marked_history.specs.Follows.{IsMadeBy, IsOfSettling, IsPartOf}
-use Rattle.script_text.specs.declared.lines.Line.TheVariants.{Settle}
+use Rattle.marked_history.specs.Follows.{IsMadeBy, IsOfSettling}
 use Rattle.hsm_replay.specs.Faults.{faults_in}
 use Rattle.hsm_replay.specs.Freshness.{IsFresh, IsToldTable, StaysFresh}
-use Rattle.hsm_replay.specs.Keeping.{unmarked, IsAtStart, IsKnownAs, IsShownAs, RecallKnows, MigrateKnows, Shows, GrowsBy, LiveOn}
+use Rattle.hsm_replay.specs.Keeping.{unmarked, IsAtStart, IsKnownAs, IsShownAs, RecallKnows, MigrateKnows, Shows, GrowsBy}
 use Rattle.marked_history.specs.Marks.{Mark, entries_of}
-use Rattle.hsm_replay.specs.Resting.{EndsInTurns, first_of, IsSettledIn, IsLeftBy, LeadsTo, EndsMarked, LeadsOn}
+use Rattle.hsm_replay.specs.Resting.{EndsInTurns, first_of, IsSettledIn, LeadsTo, EndsMarked, LeadsOn}
 use Rattle.hsm_replay.specs.Systems.{refreshed, told_next}
 use Rattle.marked_history.specs.Served.{Shown, nothing_shown, learned, shown, IsTold}
 use Rattle.hsm_replay.specs.Settled as settled
@@ -61,7 +60,6 @@ use Rattle.hsm_replay.specs.Systems.{Run, running}
 use Rattle.marked_history.specs.Waiting.{runs, no_more, unserved, PutsOff, RecallRests, MigrateRests, IsAtRest, AllMayWait}
 use Rattle.hsm_replay.proofs.Begun.{begins_pass}
 use Rattle.hsm_replay.proofs.ByRunning.{by_running_then}
-use Rattle.hsm_replay.proofs.Living.{live_then, live_through}
 use Rattle.hsm_replay.proofs.SessionCalls.{unseated as no_session}
 use Rattle.hsm_replay.proofs.Freshness.{refreshed_fresh}
 use Rattle.hsm_replay.proofs.Kept.{told_unmarked}
@@ -395,18 +393,11 @@ settles_rightly g h old mid new runs keeps ends fresh kept working opened marks 
       then,
       has_settled h opened marks (one.0 ++ two.0) old new shows.marked.entries then mid.system.store.history ends.0 (ends_later one.0 two.0 ends.0.recall_turn ends.0.migrate_turn two.3) g kept working settles fresh,
       by_running_then (running old) (running mid) one.0 two.0 runs one.3 two.4,
-      live_then old mid new marks one.0 two.0 runs one.4 two.5,
     )
 
 -- what else is so of the marks that a line leads to
 pub keeps_leads : {D M T : Type 0} (h : drive.Ghosts M) (IsPart : List Mark → Type 0) (IsSo : List Mark → List Mark → Type 0) (result : Result T Stop) (old new : Run D M) → OnOk result (GrowsBy h IsPart old new)
-    → ((before part : List Mark) → IsPart part → LiveOn old new before part → IsSo before part) → LeadsOn h IsPart IsSo result old new
+    → ((before part : List Mark) → IsPart part → IsSo before part) → LeadsOn h IsPart IsSo result old new
 keeps_leads h IsPart IsSo (Ok done) old new keeps so = λ working opened marks shows.
-    let one = keeps opened marks shows in (one.0, one.1, one.2, so marks one.0 one.1 one.4, one.3, one.4)
+    let one = keeps opened marks shows in (one.0, one.1, one.2, so marks one.0 one.1, one.3)
 keeps_leads h IsPart IsSo (Err why) old new keeps so = λ working. tt
-
--- the daemons live through a settle
-pub settle_leads : {D M T : Type 0} (h : drive.Ghosts M) (result : Result T Stop) (old new : Run D M) → running new ≡ running old → LeadsOn h (AllByRecursion IsOfSettling) (IsSettledIn new) result old new → LeadsOn h (IsPartOf Settle) (IsLeftBy Settle old new) result old new
-settle_leads h (Ok done) old new same leads = λ working opened marks shows.
-    let one = leads working opened marks shows in (one.0, one.1, one.2, (one.3, λ limits called live. live_through old new marks one.0 same one.5 limits called live), one.4, one.5)
-settle_leads h (Err why) old new same leads = λ working. tt

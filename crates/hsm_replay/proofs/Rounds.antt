@@ -20,7 +20,7 @@ use Rattle.hsm_core.specs.declared.store.Ready.TheVariants.{Now}
 use Rattle.hsm_system.specs.Running.{Recalling, Migrating}
 use Rattle.marked_history.specs.Waiting.{Running}
 use Rattle.marked_history.specs.Follows.{IsMadeBy, IsOfSettling}
-use Rattle.hsm_replay.specs.Keeping.{Shows, GrowsBy, LiveOn}
+use Rattle.hsm_replay.specs.Keeping.{Shows, GrowsBy}
 use Rattle.marked_history.specs.Marks.{Mark, entries_of}
 use Rattle.marked_history.specs.Quiet.{is_quiet}
 use Rattle.hsm_replay.specs.Freshness.{StaysFresh}
@@ -32,7 +32,6 @@ use Rattle.hsm_replay.specs.Turns.{HasTurned, MayResume, IsResumeOf, HaveResumed
 use Rattle.hsm_replay.proofs.Freshness.{fresh_alone, fresh_on}
 use Rattle.hsm_replay.proofs.Joining.{made_settles}
 use Rattle.marked_history.proofs.Lists.{all_then}
-use Rattle.hsm_replay.proofs.Living.{live_then}
 use Rattle.marked_history.proofs.QuietEvents.{all_quiet_append}
 
 -- what stands behind the first entries
@@ -171,7 +170,6 @@ module _ {D M : Type 0} (g : disk.Ghosts D) (h : drive.Ghosts M) where
               migrated = marked_since ((marks ++ one.0) ++ two.0) three.0 b.system.store.history c.system.store.history migrated.entries two.2.marked.entries three.2.marked.entries migrated.history;
             },
             by_running_then (running old) (running b) one.0 three.0 (begun_runs old a b recalled resumed) one.3 three.3,
-            subst (λ (ms : List Mark). LiveOn old c marks (one.0 ++ (ms ++ three.0))) empty (live_then old a c marks one.0 (two.0 ++ three.0) recalled.runs one.4 (live_then a b c (marks ++ one.0) two.0 three.0 (resumed_runs a b resumed) two.4 three.4)),
           )
 
       by : (b.system.store ≡ a.system.store) × NoneReady b.system.store ⊎ ((first : Entry) × (more : List Entry) × IsResumeOf first × (b.system.store.history ≡ a.system.store.history ++ first ∷ more)) → EndsMarked h old c

@@ -33,22 +33,15 @@ use Rattle.hsm_replay.specs.Drives.{HaveGrown}
 use Rattle.hsm_replay.specs.Faults.{fault_in, faults_in, IsApart, IsTrue, AreTrue}
 use Rattle.hsm_replay.specs.Keeping.{IsHeardOf, IsKnownAs, IsShownAs, RecallKnows, MigrateKnows, IsMarked, Shows}
 use Rattle.marked_history.specs.Marks.{Mark, made}
-use Rattle.marked_history.specs.Passing.{AllPassed}
-use Rattle.hsm_replay.specs.Passes.{CopyEnds, HearsCopy, PassStands}
 use Rattle.hsm_replay.specs.Sealed.{seal_by, IsStored, HearsLost, HearsStored, NeedsLost, Tallies}
-use Rattle.hsm_replay.specs.Filling.{HearsFull, FindsFull}
 use Rattle.marked_history.specs.Served.{Shown, shown, nothing_shown, MigrateMay}
 use Rattle.hsm_replay.specs.Systems.{Run, told_next}
-use Rattle.hsm_replay.proofs.Growing.{one_more_true, have_grown_itself}
+use Rattle.hsm_replay.proofs.Growing.{one_more_true}
 use Rattle.hsm_replay.proofs.Marked.{shown_more, marked_more, marked_still, no_fault_more, fault_more, still_known_if}
 use Rattle.hsm_replay.proofs.SessionCalls.{IsNoCall}
 use Rattle.hsm_replay.proofs.ActSteps.{recall_left, migrate_left}
 use Rattle.hsm_replay.proofs.RecallShown.{recall_may, recall_told, recall_lost, recall_rests}
 use Rattle.hsm_replay.proofs.MigrateShown.{migrate_may, migrate_told, migrate_seals, migrate_rests}
-use Rattle.hsm_replay.proofs.Filling.{full_still_if, full_on}
-use Rattle.hsm_replay.proofs.PassMarks.{all_passed_by_other}
-use Rattle.hsm_replay.proofs.PassCopies.{copy_ends}
-use Rattle.hsm_replay.proofs.Passing.{called_passed, called_stands, went_stands, other_stands_if}
 use Rattle.hsm_replay.proofs.Sealing.{AbortIsRight, DamageIsRight, tallies_more, tallies_by_other, damage_unsealed, lost_still_if, lost_more_if}
 use Rattle.hsm_replay.proofs.Sealing.{stored_still_if}
 
@@ -115,16 +108,10 @@ module _ {D M : Type 0} (h : drive.Ghosts M) (opened : List M) (marks : List Mar
       recall_tallies : Tallies h opened old.drives old.system.limits (marks ++ one ∷ [])
       recall_tallies = tallies_more h opened old.drives old.system.limits marks shows.marked.sealed one tt abort_right damage_right
 
-      not_migrate : Some Recall ≢ Some Migrate
-      not_migrate is = let wrong : Some Recall ≡ Some Migrate = is in cc wrong
-
-      recall_passes : AllPassed (CopyEnds h old.drives old.system.limits) old.system.limits (marks ++ one ∷ [])
-      recall_passes = all_passed_by_other (CopyEnds h old.drives old.system.limits) old.system.limits marks one shows.marked.passes not_migrate
-
       module _ (told : Heard) (store : Store D) (kept : store.history ≡ old.system.store.history ++ entry ∷ []) where
         pub recall_marked : IsMarked h opened (marks ++ made Recall sid asked reply ∷ []) (recall_left old machine told store old.drives)
         recall_marked = marked_more h opened marks (made Recall sid asked reply) old (recall_left old machine told store old.drives) shows.marked refl kept (recall_may h before.recall old.drives told_faults r machine knows sid asked goes)
-            (subst (λ (es : List Entry). AreTrue h old.drives (faults_in es)) (sym kept) (faults_now asked refl)) recall_tallies recall_passes
+            (subst (λ (es : List Entry). AreTrue h old.drives (faults_in es)) (sym kept) (faults_now asked refl)) recall_tallies
 
       pub recall_called : (store : Store D) → store.history ≡ old.system.store.history ++ entry ∷ [] → Shows h opened (marks ++ made Recall sid asked reply ∷ []) (recall_left old machine (heard.Dm reply) store old.drives)
       recall_called store kept = record {
@@ -136,8 +123,6 @@ module _ {D M : Type 0} (h : drive.Ghosts M) (opened : List M) (marks : List Mar
         migrate = subst (λ (k : Shown). IfSome old.system.migrate (MigrateKnows k.migrate)) (sym (shown_more old.system.limits nothing_shown marks (made Recall sid asked reply))) shows.migrate;
         lost = subst (λ (a : Act). HearsLost h opened old.drives (marks ++ made Recall sid asked reply ∷ []) a (heard.Dm reply)) (sym goes.asked) tt;
         stored = shows.stored;
-        full = shows.full;
-        passing = other_stands_if old.system.limits marks old.system.migrate one not_migrate shows.passing;
       }
 
     -- a rest, or what is heard of a fetch
@@ -149,8 +134,6 @@ module _ {D M : Type 0} (h : drive.Ghosts M) (opened : List M) (marks : List Mar
       migrate = subst (λ (ms : List Mark). IfSome old.system.migrate (MigrateKnows (shown old.system.limits nothing_shown ms).migrate)) (sym (append-nil marks)) shows.migrate;
       lost = subst (λ (ms : List Mark). HearsLost h opened drives ms machine.asked told) (sym (append-nil marks)) (subst (λ (a : Act). HearsLost h opened drives marks a told) (sym goes.asked) lost);
       stored = stored_still_if h old.drives drives old.system.migrate grown shows.stored;
-      full = full_still_if h old.system.limits old.drives drives old.system.migrate grown shows.full;
-      passing = subst (λ (ms : List Mark). IfSome old.system.migrate (PassStands old.system.limits ms)) (sym (append-nil marks)) shows.passing;
     }
 
   -- ---- migration
@@ -161,12 +144,6 @@ module _ {D M : Type 0} (h : drive.Ghosts M) (opened : List M) (marks : List Mar
 
     stored_then : HearsStored h old.drives m.machine.asked (told_next m.next)
     stored_then = subst (λ (o : Option Migrating). IfSome o (λ (x : Migrating). HearsStored h old.drives x.machine.asked (told_next x.next))) runs shows.stored
-
-    found_then : FindsFull h old.drives old.system.limits m
-    found_then = subst (λ (o : Option Migrating). IfSome o (FindsFull h old.drives old.system.limits)) runs shows.full
-
-    stood : PassStands old.system.limits marks m
-    stood = subst (λ (o : Option Migrating). IfSome o (PassStands old.system.limits marks)) runs shows.passing
 
     module _ (sid : Sid) (asked : DmCall) (reply : DmReply) (goes : migrator.StepsOn m.machine (told_next m.next) (Dm sid asked) machine) where
       abbrev pub call_entry : Entry
@@ -199,21 +176,13 @@ module _ {D M : Type 0} (h : drive.Ghosts M) (opened : List M) (marks : List Mar
       migrate_tallies : Tallies h opened old.drives old.system.limits (marks ++ made Migrate sid asked reply ∷ [])
       migrate_tallies = tallies_by_other h opened old.drives old.system.limits marks shows.marked.sealed (made Migrate sid asked reply) not_recall (seals_stored asked refl)
 
-      -- what it has found full, once it has heard
-      finds_full : FindsFull h old.drives old.system.limits (record { machine = machine; next = Hears (heard.Dm reply) })
-      finds_full = full_on h old.system.limits old.drives old.drives m machine (Dm sid asked) (heard.Dm reply) (have_grown_itself h old.drives) found_then goes tt
-
-      migrate_passes : AllPassed (CopyEnds h old.drives old.system.limits) old.system.limits (marks ++ made Migrate sid asked reply ∷ [])
-      migrate_passes = called_passed old.system.limits marks m machine stood sid asked reply goes (CopyEnds h old.drives old.system.limits)
-          (λ told ended. copy_ends h old.drives old.system.limits told (finds_full.ended told ended)) shows.marked.passes
-
       module _ (told : Heard) (store : Store D) (kept : store.history ≡ old.system.store.history ++ call_entry ∷ []) where
         same_faults : faults_in store.history ≡ told_faults
         same_faults = ap faults_in kept ∙ no_fault_more old.system.store.history call_entry (no_faults asked refl)
 
         pub migrate_marked : IsMarked h opened (marks ++ made Migrate sid asked reply ∷ []) (migrate_left old machine told store old.drives)
         migrate_marked = marked_more h opened marks (made Migrate sid asked reply) old (migrate_left old machine told store old.drives) shows.marked refl kept (migrate_may before.migrate m machine knew sid asked goes)
-            (subst (λ (fs : List Fault). AreTrue h old.drives fs) (sym same_faults) shows.marked.faults) migrate_tallies migrate_passes
+            (subst (λ (fs : List Fault). AreTrue h old.drives fs) (sym same_faults) shows.marked.faults) migrate_tallies
 
       pub migrate_called : (store : Store D) → store.history ≡ old.system.store.history ++ call_entry ∷ [] → Shows h opened (marks ++ made Migrate sid asked reply ∷ []) (migrate_left old machine (heard.Dm reply) store old.drives)
       migrate_called store kept = record {
@@ -223,19 +192,15 @@ module _ {D M : Type 0} (h : drive.Ghosts M) (opened : List M) (marks : List Mar
         migrate = inr (subst (λ (k : Shown). IsShownAs (migrate.knows_by machine.limits machine.known machine.asked (heard.Dm reply)) k.migrate) (sym (shown_more old.system.limits nothing_shown marks (made Migrate sid asked reply))) (migrate_told before.migrate m machine knew old.system.limits sid asked reply goes));
         lost = lost_more_if h opened old.drives marks (made Migrate sid asked reply) old.system.recall not_recall shows.lost;
         stored = subst (λ (a : Act). HearsStored h old.drives a (heard.Dm reply)) (sym goes.asked) (hears_stored asked refl);
-        full = finds_full;
-        passing = called_stands old.system.limits marks m machine stood sid asked reply goes;
       }
 
     -- a rest, or what is heard of a copy
-    pub migrate_went : (act : Act) (told : Heard) → IsNoCall act → HearsCopy act told → migrator.StepsOn m.machine (told_next m.next) act machine → (drives : List M) → HaveGrown h old.drives drives → HearsStored h drives act told → HearsFull h drives act told
+    pub migrate_went : (act : Act) (told : Heard) → IsNoCall act → migrator.StepsOn m.machine (told_next m.next) act machine → (drives : List M) → HaveGrown h old.drives drives → HearsStored h drives act told
         → Shows h opened (marks ++ []) (migrate_left old machine told old.system.store drives)
-    migrate_went act told no_call copied goes drives grown about about_full = record {
+    migrate_went act told no_call goes drives grown about = record {
       marked = marked_still h opened marks old (migrate_left old machine told old.system.store drives) shows.marked refl refl grown;
       recall = subst (λ (ms : List Mark). IfSome old.system.recall (RecallKnows h (shown old.system.limits nothing_shown ms).recall drives told_faults)) (sym (append-nil marks)) (still_known_if h before.recall old.drives drives told_faults old.system.recall grown shows.recall);
       migrate = subst (λ (ms : List Mark). MigrateKnows (shown old.system.limits nothing_shown ms).migrate (record { machine = machine; next = Hears told })) (sym (append-nil marks)) (migrate_rests before.migrate m machine knew act told no_call goes);
       lost = subst (λ (ms : List Mark). IfSome old.system.recall (λ (x : Recalling). HearsLost h opened drives ms x.machine.asked (told_next x.next))) (sym (append-nil marks)) (lost_still_if h opened old.drives drives marks old.system.recall grown shows.lost);
       stored = subst (λ (a : Act). HearsStored h drives a told) (sym goes.asked) about;
-      full = full_on h old.system.limits old.drives drives m machine act told grown found_then goes about_full;
-      passing = subst (λ (ms : List Mark). PassStands old.system.limits ms (record { machine = machine; next = Hears told })) (sym (append-nil marks)) (went_stands old.system.limits marks m machine stood act told no_call copied goes);
     }

@@ -1,23 +1,16 @@
 -- What a marked history shows of a store with its drives and its daemons, and how lines keep that.
-use Rattle.std.specs.Prelude.{◌≡◌, ◌⊎◌, List, [], ◌++◌, length, Bool, true, false, Option, None, Some, Result, Ok, Err, OnOk, OnErr, IfSome}
+use Rattle.std.specs.Prelude.{◌≡◌, ◌⊎◌, List, [], ◌++◌, length, true, false, None, Result, Ok, Err, OnOk, OnErr, IfSome}
 use Rattle.std.specs.List.{AllByRecursion}
 use Rattle.disk_model.specs.declared.device.Disk as disk
 use Rattle.media_model.specs.declared.drive.Drive as drive
 use Rattle.hsm_types.specs.Stubs.{print_of, entry_print}
 use Rattle.hsm_types.specs.declared.daemons.Act.{Act}
-use Rattle.hsm_types.specs.declared.daemons.Act.TheVariants.{Dm, Fetch, Idle}
-use Rattle.hsm_types.specs.declared.daemons.Daemon.{Daemon}
-use Rattle.hsm_types.specs.declared.daemons.Daemon.TheVariants.{Recall, Migrate}
+use Rattle.hsm_types.specs.declared.daemons.Act.TheVariants.{Fetch, Idle}
 use Rattle.hsm_types.specs.declared.daemons.Heard.{Heard}
-use Rattle.hsm_types.specs.declared.daemons.Heard.TheVariants as heard
 use Rattle.hsm_types.specs.declared.daemons.Heard.TheVariants.{Nothing, Fetched}
-use Rattle.hsm_types.specs.declared.dm.DmCall.{DmCall}
-use Rattle.hsm_types.specs.declared.dm.DmReply.{DmReply}
-use Rattle.hsm_types.specs.declared.keys.Sid.{Sid}
 use Rattle.hsm_types.specs.declared.media.Fault.{Fault}
 use Rattle.hsm_types.specs.declared.media.FetchRefusal.TheVariants as fetching
-use Rattle.hsm_policy.specs.Settings.{Numbers}
-use Rattle.daemon_session.specs.Seats.{Seat, no_seat, all_marked, NeedsNone}
+use Rattle.daemon_session.specs.Seats.{Seat, no_seat, all_marked}
 use Rattle.recall_daemon.specs.Known as recall
 use Rattle.migrate_daemon.specs.Known as migrate
 use Rattle.hsm_system.specs.Running.{Recalling, Migrating}
@@ -26,15 +19,9 @@ use Rattle.hsm_replay.specs.Drives.{HaveGrown}
 use Rattle.hsm_replay.specs.Faults.{faults_in, IsApart, IsTrue, AreTrue}
 use Rattle.marked_history.specs.Marks.{Mark, entries_of}
 use Rattle.hsm_system.specs.Events.{Runs}
-use Rattle.hsm_replay.specs.Passes.{CopyEnds, PassStands}
 use Rattle.hsm_replay.specs.Sealed.{Tallies, HearsLost, HearsStored}
-use Rattle.hsm_replay.specs.Filling.{FindsFull}
-use Rattle.marked_history.specs.Lives.{called_in, called_by, IsLast, BeginsRight}
-use Rattle.marked_history.specs.Passing.{AllPassed}
 use Rattle.marked_history.specs.Served.{Served, IsOf, shown, nothing_shown}
 use Rattle.marked_history.specs.Settling.{AreByRunning}
-use Rattle.marked_history.specs.Waiting.{Running}
-use Rattle.script_text.specs.declared.lines.Line.{Line}
 use Rattle.hsm_replay.specs.Systems.{Run, running, told_next}
 
 -- ---- what machines know
@@ -73,81 +60,32 @@ module _ {M : Type 0} (g : drive.Ghosts M) where
 abbrev pub MigrateKnows : migrate.Known → Migrating → Type 0
 MigrateKnows k m = IsAtStart m.machine.known.seat m.machine.asked (told_next m.next) ⊎ IsShownAs (migrate.knows_by m.machine.limits m.machine.known m.machine.asked (told_next m.next)) k
 
--- ---- the lives of daemons
-
--- what the daemon asked last, and hears next, is its last mark
-abbrev pub HearsLast : Daemon → List Mark → Act → Heard → Type 0
-HearsLast daemon marks asked told = (sid : Sid) (call : DmCall) (reply : DmReply) → asked ≡ Dm sid call → told ≡ heard.Dm reply → IsLast daemon sid call reply marks
-
--- The recall daemon is at its start until it has called, and then it knows what the history shows. It has no session while it waits for what is told
--- without one.
-pub record RecallLives (marks : List Mark) (k : recall.Known) (called : Bool) (r : Recalling) : Type 0 where
-  pub starts : called ≡ false → IsAtStart r.machine.known.seat r.machine.asked (told_next r.next) × (r.machine.known.hand ≡ None)
-  pub knows : called ≡ true → IsKnownAs (recall.knows_by r.machine.known r.machine.asked (told_next r.next)) k
-  pub hears : HearsLast Recall marks r.machine.asked (told_next r.next)
-  pub outside : NeedsNone r.machine.asked → r.machine.known.seat.sid ≡ None
-
--- So does the migration daemon.
-pub record MigrateLives (marks : List Mark) (k : migrate.Known) (called : Bool) (m : Migrating) : Type 0 where
-  pub starts : called ≡ false → IsAtStart m.machine.known.seat m.machine.asked (told_next m.next)
-  pub knows : called ≡ true → IsShownAs (migrate.knows_by m.machine.limits m.machine.known m.machine.asked (told_next m.next)) k
-  pub hears : HearsLast Migrate marks m.machine.asked (told_next m.next)
-  pub outside : NeedsNone m.machine.asked → m.machine.known.seat.sid ≡ None
-
--- one that doesn't run has made no call since it was started
-abbrev pub LivesIf : {R : Type 0} → (Bool → R → Type 0) → Bool → Option R → Type 0
-LivesIf Lives called None = called ≡ false
-LivesIf Lives called (Some r) = Lives called r
-
--- so behind these marks either daemon lives, where these have called
-pub record Live {D M : Type 0} (limits : Numbers) (called : Running) (marks : List Mark) (s : Run D M) : Type 0 where
-  pub recall : LivesIf (RecallLives marks (shown limits nothing_shown marks).recall) called.recall s.system.recall
-  pub migrate : LivesIf (MigrateLives marks (shown limits nothing_shown marks).migrate) called.migrate s.system.migrate
-
-module _ {D M : Type 0} (old new : Run D M) where
-  -- Of more marks each call is right. Where the same daemons run on, they live on by them.
-  abbrev pub LiveOn : (marks more : List Mark) → Type 0
-  LiveOn marks more = (limits : Numbers) (called : Running) → Live limits called marks old → (running new ≡ running old → Live limits (called_in more called) (marks ++ more) new) × BeginsRight limits called marks more
-
-  -- so do they by a line's marks, whichever daemons run behind it
-  abbrev pub LiveThrough : Line → (marks more : List Mark) → Type 0
-  LiveThrough line marks more = (limits : Numbers) (called : Running) → Live limits called marks old → Live limits (called_by line (called_in more called)) (marks ++ more) new × BeginsRight limits called marks more
-
--- Where a run was stopped each call is right.
-abbrev pub LiveUntil : {D M : Type 0} → Run D M → (marks more : List Mark) → Type 0
-LiveUntil old marks more = (limits : Numbers) (called : Running) → Live limits called marks old → BeginsRight limits called marks more
-
 -- ---- what a history shows
 
 module _ {D M : Type 0} (g : drive.Ghosts M) where
-  -- The marked entries are those of the store. They are served, the faults that events were answered for are true, what was sealed is on the drives, which
-  -- were opened as these, and each pass of migration that is over is as it should be.
+  -- The marked entries are those of the store. They are served, the faults that events were answered for are true, and what was sealed is on the drives, which
+  -- were opened as these.
   pub record IsMarked (opened : List M) (marks : List Mark) (s : Run D M) : Type 0 where
     pub entries : entries_of marks ≡ s.system.store.history
     pub served : Served s.system.limits marks
     pub faults : AreTrue g s.drives (faults_in s.system.store.history)
     pub sealed : Tallies g opened s.drives s.system.limits marks
-    pub passes : AllPassed (CopyEnds g s.drives s.system.limits) s.system.limits marks
 
-  -- They show what the daemons know, too. What these heard last of a fetch and a copy is so, the volumes that migration found full are, and the pass that
-  -- is under way is that of the last table.
+  -- They show what the daemons know, too. What these heard last of a fetch and a copy is so.
   pub record Shows (opened : List M) (marks : List Mark) (s : Run D M) : Type 0 where
     pub marked : IsMarked opened marks s
     pub recall : IfSome s.system.recall (RecallKnows g (shown s.system.limits nothing_shown marks).recall s.drives (faults_in s.system.store.history))
     pub migrate : IfSome s.system.migrate (MigrateKnows (shown s.system.limits nothing_shown marks).migrate)
     pub lost : IfSome s.system.recall (λ (r : Recalling). HearsLost g opened s.drives marks r.machine.asked (told_next r.next))
     pub stored : IfSome s.system.migrate (λ (m : Migrating). HearsStored g s.drives m.machine.asked (told_next m.next))
-    pub full : IfSome s.system.migrate (FindsFull g s.drives s.system.limits)
-    pub passing : IfSome s.system.migrate (PassStands s.system.limits marks)
 
-  -- From each marked history that shows it, entries of that kind lead on to one that shows what is left. Calls among them are made by daemons that run,
-  -- which live on so.
+  -- From each marked history that shows it, entries of that kind lead on to one that shows what is left. Calls among them are made by daemons that run.
   abbrev pub GrowsBy : (List Mark → Type 0) → Run D M → Run D M → Type 0
-  GrowsBy IsPart old new = (opened : List M) (marks : List Mark) → Shows opened marks old → (more : List Mark) × IsPart more × Shows opened (marks ++ more) new × AreByRunning (running old) more × LiveOn old new marks more
+  GrowsBy IsPart old new = (opened : List M) (marks : List Mark) → Shows opened marks old → (more : List Mark) × IsPart more × Shows opened (marks ++ more) new × AreByRunning (running old) more
 
   -- Where a run was stopped there may be no such entry, and nothing is said of what the daemons know.
   abbrev pub Ends : (List Mark → Type 0) → Run D M → Run D M → Type 0
-  Ends IsPart old new = (opened : List M) (marks : List Mark) → Shows opened marks old → (more : List Mark) × (IsPart more ⊎ (more ≡ [])) × IsMarked opened (marks ++ more) new × AreByRunning (running old) more × LiveUntil old marks more
+  Ends IsPart old new = (opened : List M) (marks : List Mark) → Shows opened marks old → (more : List Mark) × (IsPart more ⊎ (more ≡ [])) × IsMarked opened (marks ++ more) new × AreByRunning (running old) more
 
 -- ---- what is run
 

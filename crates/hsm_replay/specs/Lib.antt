@@ -11,7 +11,6 @@ pub mod Drives
 pub mod Running
 pub mod Sealed
 pub mod Filling
-pub mod Passes
 pub mod Freshness
 pub mod Settled
 pub mod Turns

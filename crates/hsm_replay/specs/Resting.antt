@@ -9,7 +9,7 @@ use Rattle.file_store.specs.Stores.{superblock_of}
 use Rattle.plain_model.specs.State.{State, just_opened}
 use Rattle.hsm_system.specs.declared.stops.Stop.{Stop}
 use Rattle.marked_history.specs.Follows.{IsMadeBy, IsOfSettling}
-use Rattle.hsm_replay.specs.Keeping.{Shows, LiveOn, LiveThrough}
+use Rattle.hsm_replay.specs.Keeping.{Shows}
 use Rattle.marked_history.specs.Marks.{Mark, entries_of}
 use Rattle.hsm_replay.specs.Settled.{EndsQuietly}
 use Rattle.hsm_replay.specs.Systems.{Run, running}
@@ -30,9 +30,9 @@ pub record EndsInTurns (marks : List Mark) (recall_turn migrate_turn : List Entr
 
 module _ {D M : Type 0} (g : drive.Ghosts M) where
   -- From each marked history that shows the store, marks of that kind lead on to one that shows what is left, and of which that is so. Calls among them are
-  -- made by daemons that run, which live on so.
+  -- made by daemons that run.
   abbrev pub LeadsTo : (List Mark → Type 0) → (List Mark → List Mark → Type 0) → Run D M → Run D M → Type 0
-  LeadsTo IsPart IsSo old new = (opened : List M) (marks : List Mark) → Shows g opened marks old → (part : List Mark) × IsPart part × Shows g opened (marks ++ part) new × IsSo marks part × AreByRunning (running old) part × LiveOn old new marks part
+  LeadsTo IsPart IsSo old new = (opened : List M) (marks : List Mark) → Shows g opened marks old → (part : List Mark) × IsPart part × Shows g opened (marks ++ part) new × IsSo marks part × AreByRunning (running old) part
 
   -- It has come to rest, in turns that are marked so.
   abbrev pub EndsMarked : Run D M → Run D M → Type 0
@@ -50,6 +50,6 @@ first_of s = just_opened s.system.store.opened.meta.number s.system.store.opened
 abbrev pub IsSettledIn : {D M : Type 0} → Run D M → (before part : List Mark) → Type 0
 IsSettledIn s before part = HasSettled s.system.limits (superblock_of s.system.store.opened) (first_of s) (running s) before part
 
--- the line's part, with what it has come to where it settles, and with how daemons live through it
-abbrev pub IsLeftBy : {D M : Type 0} → Line → Run D M → Run D M → (before part : List Mark) → Type 0
-IsLeftBy line old new before part = LeavesSettled new.system.limits (superblock_of new.system.store.opened) (first_of new) line (running new) before part × LiveThrough old new line before part
+-- the line's part, with what it has come to where it settles
+abbrev pub IsLeftBy : {D M : Type 0} → Line → Run D M → (before part : List Mark) → Type 0
+IsLeftBy line new before part = LeavesSettled new.system.limits (superblock_of new.system.store.opened) (first_of new) line (running new) before part

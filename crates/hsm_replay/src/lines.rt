@@ -33,7 +33,7 @@ impl<D: Disk, M: Drive> Replay<D, M> {
         ensures moves { Moves D.Disk M.Drive (IsPartOf line) result self.old self.new }
         ensures does { Does D.Disk M.Drive line result self.old self.new }
         ensures runs { running self.new ≡ running_by line (running self.old) }
-        ensures left { LeadsOn M.Drive (IsPartOf line) (IsLeftBy line self.old self.new) result self.old self.new }
+        ensures left { LeadsOn M.Drive (IsPartOf line) (IsLeftBy line self.new) result self.old self.new }
         ensures deeds { ByDeeds M.Drive (λ done. IsLinePart is_quiet (MayGoOn self.old.system.store) line) (IsLineCut is_quiet (MayGoOn self.old.system.store) line) result self.old self.new }
     {
         match line {

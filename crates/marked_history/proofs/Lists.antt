@@ -1,8 +1,8 @@
 -- Lists in parts: what is so of each element, and where an element stands.
 use Rattle.std.proofs.Common.{◌≡◌, ◌⊎◌, zero, suc, List, [], ◌∷◌, ◌++◌, Contains, inl, inr}
-use Rattle.std.proofs.Common.{refl, sym, ap, subst, ◌∙◌, append-nil, arith}
+use Rattle.std.proofs.Common.{refl, sym, ap, subst, append-nil, arith}
 use Rattle.std.specs.List.{AllByRecursion}
-use Rattle.std.proofs.lemmas.List.Elements.{All-contains, All-from_recursion, Contains-append_right}
+use Rattle.std.proofs.lemmas.List.Elements.{Contains-append_right}
 
 -- ---- what is so of each
 
@@ -24,9 +24,6 @@ all_first P (x ∷ xs) ys each = (each.0, all_first P xs ys each.1)
 pub all_at : {A : Type 0} (P : A → Type 0) (before : List A) (x : A) (rest : List A) → AllByRecursion P (before ++ x ∷ rest) → P x
 all_at P [] x rest each = each.0
 all_at P (b ∷ before) x rest each = all_at P before x rest each.1
-
-pub all_has : {A : Type 0} (P : A → Type 0) (xs : List A) (x : A) → AllByRecursion P xs → Contains xs x → P x
-all_has P xs x each has = All-contains P xs x (All-from_recursion P xs each) has
 
 -- ---- its elements
 
@@ -88,13 +85,3 @@ place {A = A} xs x before y rest is = elim (in_either xs (x ∷ []) before y res
 pub both_none : {A : Type 0} (one two : List A) → [] ≡ one ++ two → (one ≡ []) × (two ≡ [])
 both_none [] two is = (refl, sym is)
 both_none (a ∷ one) two is = cc
-
--- the last element of two lists is that of the second, or of the first
-abbrev pub Last : {A : Type 0} → List A → List A → List A → A → Type 0
-Last {A = A} one two more x = ((two ≡ []) × (one ≡ more ++ x ∷ [])) ⊎ ((less : List A) × (two ≡ less ++ x ∷ []) × (more ≡ one ++ less))
-
-pub last_of : {A : Type 0} (one two more : List A) (x : A) → one ++ two ≡ more ++ x ∷ [] → Last one two more x
-last_of {A = A} one two more x is = elim (in_either one two more x [] is) [
-  | inl within ↦ let none = both_none within.0 two within.2 in inl (none.1, within.1 ∙ ap (λ (l : List A). more ++ x ∷ l) none.0)
-  | inr behind ↦ inr (behind.0, behind.2, behind.1)
-]

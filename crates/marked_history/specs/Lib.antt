@@ -1,11 +1,9 @@
 pub mod Marks
 pub mod Quiet
 pub mod Served
-pub mod Passing
 pub mod Caused
 pub mod Follows
 pub mod Tokens
 pub mod Freeing
 pub mod Waiting
-pub mod Lives
 pub mod Settling

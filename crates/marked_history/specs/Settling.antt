@@ -23,7 +23,6 @@ use Rattle.migrate_daemon.specs.Shares.{is_above}
 use Rattle.script_text.specs.declared.lines.Line.{Line}
 use Rattle.script_text.specs.declared.lines.Line.TheVariants.{Start, Kill, Settle}
 use Rattle.marked_history.specs.Follows.{IsPartOf}
-use Rattle.marked_history.specs.Lives.{called_in, called_by, BeginsRight}
 use Rattle.marked_history.specs.Marks.{Mark, entries_of, made}
 use Rattle.marked_history.specs.Served.{Shown, nothing_shown, shown, Served}
 use Rattle.marked_history.specs.Tokens.{seat_of}
@@ -108,12 +107,11 @@ module _ (limits : Numbers) (s : Superblock) (first : State) where
 
   -- ---- over all lines
 
-  -- The marks behind those before fall into parts, one for each line, in order. Calls are made by daemons that run, each life of a daemon begins as it should,
-  -- and each settle has come to its end so.
-  abbrev pub EachSettles : (running called : Running) → (before : List Mark) → List Line → List Mark → Type 0
-  EachSettles r called before [] marks = marks ≡ []
-  EachSettles r called before (line ∷ lines) marks = (part : List Mark) × ((rest : List Mark) × ((marks ≡ part ++ rest) × IsPartOf line part × AreByRunning (running_by line r) part × LeavesSettled line (running_by line r) before part
-      × BeginsRight limits called before part × EachSettles (running_by line r) (called_by line (called_in part called)) (before ++ part) lines rest))
+  -- The marks behind those before fall into parts, one for each line, in order. Calls are made by daemons that run, and each settle has come to its end so.
+  abbrev pub EachSettles : (running : Running) → (before : List Mark) → List Line → List Mark → Type 0
+  EachSettles r before [] marks = marks ≡ []
+  EachSettles r before (line ∷ lines) marks = (part : List Mark) × ((rest : List Mark) × ((marks ≡ part ++ rest) × IsPartOf line part × AreByRunning (running_by line r) part × LeavesSettled line (running_by line r) before part
+      × EachSettles (running_by line r) (before ++ part) lines rest))
 
 -- ---- where no line has a session
 

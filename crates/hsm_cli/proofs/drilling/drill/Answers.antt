@@ -14,7 +14,7 @@ use Rattle.hsm_cli.specs.Daemons.{IsWellServedOver, KeepsThroughoutOver}
 use Rattle.hsm_cli.specs.Deeds.{AreDone, AreThese, DrivesInMemory, HasDone, HaveGone, MayGoOnOver}
 use Rattle.hsm_cli.specs.Endings.{cause_in, WritingEnds}
 use Rattle.hsm_cli.specs.Follows.{SettlesOn}
-use Rattle.hsm_cli.specs.Sealing.{IsRightInMemory}
+use Rattle.hsm_cli.specs.Sealing.{LosesNothing}
 use Rattle.hsm_cli.specs.Texts.{drill_text}
 use Rattle.hsm_cli.specs.RunObjects.{sink_told}
 use Rattle.hsm_cli.proofs.ByCause.{if_told}
@@ -51,8 +51,8 @@ returns-in-Ok-clause-script g c =
     let given = c.in-Ok.prepared.drives.items in
     let left = c.run_on-drilled.result.drives.items in
     rw (c.ended.ensures, c.err-cause.ensures.value)
-    (settles_new g.row.D.Denot opened (λ so well. HasDrilled so (λ marks. well marks × IsRightInMemory marks) c.args.number (cause_in c.tell.result) history) empty.0 empty.1 empty.2
-    (has_drilled (SettlesOn (Some opened)) (λ marks. KeepsThroughoutOver (Some opened) marks × IsRightInMemory marks) c.args.number history (sink_told g.O.Sink.taken g.O.Sink.fault_count c.args.sink.now c.tell.new.sink) ended c.tell.result
+    (settles_new g.row.D.Denot opened (λ so well. HasDrilled so (λ marks. well marks × LosesNothing marks) c.args.number (cause_in c.tell.result) history) empty.0 empty.1 empty.2
+    (has_drilled (SettlesOn (Some opened)) (λ marks. KeepsThroughoutOver (Some opened) marks × LosesNothing marks) c.args.number history (sink_told g.O.Sink.taken g.O.Sink.fault_count c.args.sink.now c.tell.new.sink) ended c.tell.result
     (drills_all _ opened given left c.seals_are_whole.ensures refl (λ d v there. has_gives d v there) c.args.number c.in-Ok.prepared.script history c.in-Ok.ensures.script ran.keeps ended ran.all)
     (drills_first _ opened given left c.seals_are_whole.ensures refl (λ d v there. has_gives d v there) c.args.number c.in-Ok.prepared.script history c.in-Ok.ensures.script ran.keeps ran.first) c.tell.ensures.ends c.tell.ensures.ended))
 

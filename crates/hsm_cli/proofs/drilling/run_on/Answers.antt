@@ -22,7 +22,7 @@ pub returns-clause-first : goal.returns-clause-first
 returns-clause-first g c = rw (c.close-disk.ensures.entries, c.close-hsm.ensures.store, c.close-hsm.ensures.drives) (rw c.new-replay.ensures at c.run_all-ended.ensures.first)
 
 pub returns-clause-well : goal.returns-clause-well
-returns-clause-well g c = rw c.close-disk.ensures.entries (run_is_well (record { anew = c.makes_anew.ensures; over = c.takes_over.ensures; frees = c.punch_frees.ensures }) g.D.Disk c.args.hsm c.close-hsm.result.0 (goes_on g (goal.at.returns-clause-well g c).After-close-disk) c.close-disk.ensures.kept)
+returns-clause-well g c = rw c.close-disk.ensures.entries (run_is_well (record { anew = c.makes_anew.ensures; over = c.takes_over.ensures; begins = c.begins_right.ensures; passes = c.all_passed.ensures; frees = c.punch_frees.ensures }) g.D.Disk c.args.hsm c.close-hsm.result.0 (goes_on g (goal.at.returns-clause-well g c).After-close-disk) c.close-disk.ensures.kept)
 
 pub returns-clause-keeps : goal.returns-clause-keeps
 returns-clause-keeps g c = rw c.close-disk.ensures.entries (run_keeps c.served_keeps_all.ensures g.D.Disk c.args.hsm c.close-hsm.result.0 (goes_on g (goal.at.returns-clause-keeps g c).After-close-disk) c.close-disk.ensures.kept)

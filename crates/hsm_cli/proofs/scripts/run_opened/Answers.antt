@@ -25,7 +25,7 @@ returns-clause-script g c =
     (has_run _ _ c.args.commits (source_told g.I.Source.left g.I.Source.fault_count c.args.source.now c.run_with-ended.new.source) _ (sink_told g.O.Sink.taken g.O.Sink.fault_count c.args.sink.now c.write_transcript-written.new.sink) c.run_with-ended.result.ended c.write_transcript-written.result c.write_transcript-written.ensures.refused c.run_with-ended.ensures.ran)
 
 pub returns-clause-well : goal.returns-clause-well
-returns-clause-well g c = rw c.close-disk.ensures.entries (run_is_well (record { anew = c.makes_anew.ensures; over = c.takes_over.ensures; frees = c.punch_frees.ensures }) g.D.Disk c.args.hsm c.run_with-ended.result.hsm c.run_with-ended.ensures.goes_on c.close-disk.ensures.kept)
+returns-clause-well g c = rw c.close-disk.ensures.entries (run_is_well (record { anew = c.makes_anew.ensures; over = c.takes_over.ensures; begins = c.begins_right.ensures; passes = c.all_passed.ensures; frees = c.punch_frees.ensures }) g.D.Disk c.args.hsm c.run_with-ended.result.hsm c.run_with-ended.ensures.goes_on c.close-disk.ensures.kept)
 
 pub returns-clause-keeps : goal.returns-clause-keeps
 returns-clause-keeps g c = rw c.close-disk.ensures.entries (run_keeps c.served_keeps_all.ensures g.D.Disk c.args.hsm c.run_with-ended.result.hsm c.run_with-ended.ensures.goes_on c.close-disk.ensures.kept)

@@ -1,8 +1,9 @@
 use Rattle.std.proofs.Common.{◌∙◌, Some, inr, refl}
 use Rattle.std.proofs.lemmas.Result.{err_from_is_err_and}
 use Rattle.hsm_replay.proofs.Growing.{have_grown_itself}
+use Rattle.hsm_policy.specs.Settings.{standard}
+use Rattle.hsm_replay.specs.Sealed.{Tallies}
 use Rattle.hsm_cli.specs.Follows.{SettlesOn, lines_run}
-use Rattle.hsm_cli.specs.Sealing.{TellsOf}
 use Rattle.hsm_cli.specs.RunObjects.{source_told}
 use Rattle.hsm_cli.proofs.Scripted.{none_true, none_run, all_run, first_run}
 use Rattle.hsm_cli.specs.Deeds.{AreDone, AreOfScript, HaveGone, MayGoOnOver}
@@ -15,7 +16,7 @@ use Rattle.hsm_cli.proofs.scripts.run_script.Goals as goal
 pub returns-in_err-script-clause-ran : goal.returns-in_err-script-clause-ran
 returns-in_err-script-clause-ran g c =
     let p = err_from_is_err_and c.from_residual.result c.from_residual.ensures.1 in
-    rw (p.1, p.2) (none_run (SettlesOn (Some c.args.replay.now.system.store.opened)) (TellsOf g.M.Drive c.args.replay.now.drives c.args.replay.now.drives) ⊥ ⊥ c.args.commits (source_told g.I.Source.left g.I.Source.fault_count c.args.source.now c.read_script.new.source) _ _ c.requires.ready.store.history c.in_err-script.ensures.refused)
+    rw (p.1, p.2) (none_run (SettlesOn (Some c.args.replay.now.system.store.opened)) (Tallies g.M.Drive c.args.replay.now.drives c.args.replay.now.drives standard) ⊥ ⊥ c.args.commits (source_told g.I.Source.left g.I.Source.fault_count c.args.source.now c.read_script.new.source) _ _ c.requires.ready.store.history c.in_err-script.ensures.refused)
 
 pub returns-in_err-script-clause-media : goal.returns-in_err-script-clause-media
 returns-in_err-script-clause-media g c = none_true g.M.Drive _ _ c.requires.ready.store.history

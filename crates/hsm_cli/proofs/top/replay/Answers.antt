@@ -8,7 +8,7 @@ use Rattle.hsm_policy.specs.Settings.{standard}
 use Rattle.hsm_cli.specs.Clauses.{HasRun}
 use Rattle.hsm_cli.specs.Deeds.{AreDone, AreOfScript, DrivesInMemory, MayGoOnOver}
 use Rattle.hsm_cli.specs.Follows.{SettlesOn}
-use Rattle.hsm_cli.specs.Sealing.{IsRightInMemory}
+use Rattle.hsm_cli.specs.Sealing.{LosesNothing}
 use Rattle.hsm_cli.specs.RunObjects.{source_told, sink_told}
 use Rattle.hsm_cli.proofs.Faults.{caused_none, caused_new, none_failed}
 use Rattle.hsm_cli.proofs.Legality.{good_new, good_unopened, packed_new}
@@ -28,8 +28,8 @@ returns-in-Ok-clause-script g c =
     let cause = c.run_opened-finished.result.cause in
     let history = c.run_opened-finished.result.history in
     rw c.ended.ensures
-    (settles_new g.row.D.Denot c.in-Ok.hsm.opened (λ so well. HasRun so (λ marks. well marks × IsRightInMemory marks) false source cause history) c.in-Ok.ensures.empty.0 c.in-Ok.ensures.empty.1 c.in-Ok.ensures.empty.2
-    (also_keeps (Some c.in-Ok.hsm.opened) (SettlesOn (Some c.in-Ok.hsm.opened)) IsRightInMemory false source cause history c.run_opened-finished.ensures.keeps
+    (settles_new g.row.D.Denot c.in-Ok.hsm.opened (λ so well. HasRun so (λ marks. well marks × LosesNothing marks) false source cause history) c.in-Ok.ensures.empty.0 c.in-Ok.ensures.empty.1 c.in-Ok.ensures.empty.2
+    (also_keeps (Some c.in-Ok.hsm.opened) (SettlesOn (Some c.in-Ok.hsm.opened)) LosesNothing false source cause history c.run_opened-finished.ensures.keeps
     (right_run (SettlesOn (Some c.in-Ok.hsm.opened)) _ (λ ds. ds.items) c.run_opened-finished.result.drives.items c.new_drives-drives.result false source cause history
     c.seals_are_whole.ensures refl (λ d v there. has_gives d v there) c.new_drives-drives.ensures.why c.run_opened-finished.ensures.unready c.run_opened-finished.ensures.idle c.run_opened-finished.ensures.script)))
 

@@ -1,13 +1,10 @@
-use Rattle.std.proofs.Common.{List, Ok, sym, subst}
+use Rattle.std.proofs.Common.{Ok}
 use Rattle.script_text.specs.declared.lines.Line.TheVariants.{Event, Start, Kill, Step}
 use Rattle.marked_history.specs.Follows.{IsPartOf}
-use Rattle.marked_history.specs.Marks.{Mark}
-use Rattle.hsm_replay.specs.Keeping.{LiveThrough}
 use Rattle.hsm_replay.specs.Resting.{IsLeftBy}
 use Rattle.hsm_replay.specs.Systems.{started, killed}
 use Rattle.hsm_replay.proofs.Beginning.{starts_moves, kills_moves}
-use Rattle.hsm_replay.proofs.Living.{live_through, starts_through, kills_through}
-use Rattle.hsm_replay.proofs.Resting.{keeps_leads, settle_leads}
+use Rattle.hsm_replay.proofs.Resting.{keeps_leads}
 use Rattle.hsm_replay.proofs.WhichRun.{event_runs, started_runs, killed_runs}
 use Rattle.hsm_replay.proofs.DeedRounds.{started_done, killed_done}
 use Rattle.hsm_replay.proofs.replay.Replay.line.Goals as goal
@@ -47,24 +44,19 @@ returns-in-Settle-clause-runs g c = rw c.in-Settle.is c.settle.ensures.runs
 
 pub returns-in-Event-clause-left : goal.returns-in-Event-clause-left
 returns-in-Event-clause-left g c =
-    let same = event_runs {D = g.row.D.Denot} {M = g.row.M.Denot} c.args.self.now c.event.new.self (c.event.ensures.does c.in-Event.seed).2 in
-    rw c.in-Event.is (keeps_leads g.M.Drive (IsPartOf (Event c.in-Event.actor c.in-Event.action c.in-Event.seed)) (IsLeftBy (Event c.in-Event.actor c.in-Event.action c.in-Event.seed) c.args.self.now c.event.new.self) _ c.args.self.now c.event.new.self (c.event.ensures.moves c.in-Event.seed).keeps
-    (λ before part is on. (tt, λ limits called live. live_through c.args.self.now c.event.new.self before part same on limits called live)))
+    rw c.in-Event.is (keeps_leads g.M.Drive (IsPartOf (Event c.in-Event.actor c.in-Event.action c.in-Event.seed)) (IsLeftBy (Event c.in-Event.actor c.in-Event.action c.in-Event.seed) c.event.new.self) _ c.args.self.now c.event.new.self (c.event.ensures.moves c.in-Event.seed).keeps (λ before part is. tt))
 
 pub returns-in-Start-clause-left : goal.returns-in-Start-clause-left
-returns-in-Start-clause-left g c = rw (c.in-Start.is, c.start.ensures.started) (keeps_leads {T = Unit {0}} g.M.Drive (IsPartOf (Start c.in-Start.daemon)) (IsLeftBy (Start c.in-Start.daemon) c.args.self.now (started c.in-Start.daemon c.args.self.now)) (Ok tt) c.args.self.now (started c.in-Start.daemon c.args.self.now) (starts_moves g.D.Disk g.M.Drive c.in-Start.daemon c.args.self.now).keeps
-    (λ before part is on. (tt, subst (λ (ms : List Mark). LiveThrough c.args.self.now (started c.in-Start.daemon c.args.self.now) (Start c.in-Start.daemon) before ms) (sym is) (starts_through c.in-Start.daemon c.args.self.now before))))
+returns-in-Start-clause-left g c = rw (c.in-Start.is, c.start.ensures.started) (keeps_leads {T = Unit {0}} g.M.Drive (IsPartOf (Start c.in-Start.daemon)) (IsLeftBy (Start c.in-Start.daemon) (started c.in-Start.daemon c.args.self.now)) (Ok tt) c.args.self.now (started c.in-Start.daemon c.args.self.now) (starts_moves g.D.Disk g.M.Drive c.in-Start.daemon c.args.self.now).keeps (λ before part is. tt))
 
 pub returns-in-Kill-clause-left : goal.returns-in-Kill-clause-left
-returns-in-Kill-clause-left g c = rw (c.in-Kill.is, c.kill.ensures.killed) (keeps_leads {T = Unit {0}} g.M.Drive (IsPartOf (Kill c.in-Kill.daemon)) (IsLeftBy (Kill c.in-Kill.daemon) c.args.self.now (killed c.in-Kill.daemon c.args.self.now)) (Ok tt) c.args.self.now (killed c.in-Kill.daemon c.args.self.now) (kills_moves g.D.Disk g.M.Drive c.in-Kill.daemon c.args.self.now).keeps
-    (λ before part is on. (tt, subst (λ (ms : List Mark). LiveThrough c.args.self.now (killed c.in-Kill.daemon c.args.self.now) (Kill c.in-Kill.daemon) before ms) (sym is) (kills_through c.in-Kill.daemon c.args.self.now before))))
+returns-in-Kill-clause-left g c = rw (c.in-Kill.is, c.kill.ensures.killed) (keeps_leads {T = Unit {0}} g.M.Drive (IsPartOf (Kill c.in-Kill.daemon)) (IsLeftBy (Kill c.in-Kill.daemon) (killed c.in-Kill.daemon c.args.self.now)) (Ok tt) c.args.self.now (killed c.in-Kill.daemon c.args.self.now) (kills_moves g.D.Disk g.M.Drive c.in-Kill.daemon c.args.self.now).keeps (λ before part is. tt))
 
 pub returns-in-Step-clause-left : goal.returns-in-Step-clause-left
-returns-in-Step-clause-left g c = rw c.in-Step.is (keeps_leads g.M.Drive (IsPartOf (Step c.in-Step.daemon)) (IsLeftBy (Step c.in-Step.daemon) c.args.self.now c.step.new.self) _ c.args.self.now c.step.new.self c.step.ensures.moves.keeps
-    (λ before part is on. (tt, λ limits called live. live_through c.args.self.now c.step.new.self before part c.step.ensures.runs on limits called live)))
+returns-in-Step-clause-left g c = rw c.in-Step.is (keeps_leads g.M.Drive (IsPartOf (Step c.in-Step.daemon)) (IsLeftBy (Step c.in-Step.daemon) c.step.new.self) _ c.args.self.now c.step.new.self c.step.ensures.moves.keeps (λ before part is. tt))
 
 pub returns-in-Settle-clause-left : goal.returns-in-Settle-clause-left
-returns-in-Settle-clause-left g c = rw c.in-Settle.is (settle_leads g.M.Drive _ c.args.self.now c.settle.new.self c.settle.ensures.runs c.settle.ensures.settles)
+returns-in-Settle-clause-left g c = rw c.in-Settle.is c.settle.ensures.settles
 
 pub returns-in-Event-clause-deeds : goal.returns-in-Event-clause-deeds
 returns-in-Event-clause-deeds g c = rw c.in-Event.is (c.event.ensures.deeds c.in-Event.seed)
