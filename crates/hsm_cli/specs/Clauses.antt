@@ -76,8 +76,8 @@ HasDrilled Settles Says number (Some NoMemory) history = (history ≡ []) ⊎ Dr
 HasDrilled Settles Says number (Some why) history = history ≡ []
 
 -- Only the forms of `replay` run a script, and `drill` the one that it makes of its number. `replay PATH DIR` ends with a commit, and its marks tally with the
--- drives that come back; those of plain `replay` and of `drill`, whose drives in memory never fail, lose nothing that was sealed. All are well served, and
--- passes in them are as they should be.
+-- drives that come back; those of plain `replay` and of `drill`, whose drives in memory never fail, lose nothing that was sealed. In each of
+-- them daemons keep the events that are theirs.
 abbrev pub ScriptClause : {D M : Type 0} → drive.Ghosts M → (List ℕ → ℕ → Objects → Type 0) → Option Form → SourceTold → Outcome D M → Type 0
 ScriptClause g stores None source o = o.history ≡ []
 ScriptClause g stores (Some (Format path size)) source o = o.history ≡ []
