@@ -1,77 +1,62 @@
 -- Passes that end, one after the other.
-use Rattle.std.proofs.Common.{◌≡◌, ℕ, ◌<◌, ◌||◌, Bool, true, List, [], ◌∷◌, length, Option, Some, None, refl, ap, sym, ◌∙◌, subst, arith}
+use Rattle.std.proofs.Common.{◌≡◌, ◌||◌, ◌<◌, ℕ, Bool, true, false, List, [], ◌∷◌, length, Option, Some, None, refl, ap, sym, ◌∙◌, subst, arith}
 use Rattle.std.specs.Prelude.{All, IfSome}
-use Rattle.std.proofs.lemmas.List.Elements.{All-cons, All-head, All-tail}
+use Rattle.std.proofs.lemmas.List.Elements.{All-cons}
 use mathlib.Core.List.{IsPrefix}
-use Rattle.atomic_table.specs.Seated.{TableId}
-use Rattle.atomic_table.specs.declared.shared.Seat.{Seat}
 use Rattle.call_seats.specs.declared.views.Mark.{Mark}
-use Rattle.call_seats.specs.declared.views.View.{View}
-use Rattle.call_seats.specs.Views.{joined, Tells}
-use Rattle.call_seats.specs.Seated.{IsAt}
-use Rattle.call_seats.specs.Passes.{Knowledge, DeskState, known_to}
-use Rattle.call_seats.proofs.Beginnings.{longer_whole_left}
-
--- the pen's pass still has the right, and has seen what it had
-pub record IsWhole (pen : Option Knowledge) (v : View) : Type 0 where
-  pub kept : (p : Knowledge) → pen ≡ Some p → p.right ≡ true → (v.right ≡ true) × (v.seen ≡ p.seen)
-
--- each pass has seen a beginning, if those that are left have
-pub record HaveBegun (pen : Option Knowledge) (passes rest : List Knowledge) : Type 0 where
-  pub begun : (p : Knowledge) → pen ≡ Some p → p.right ≡ true → All (λ q. IsPrefix q.seen p.seen) rest → All (λ q. IsPrefix q.seen p.seen) passes
-
--- ---- before the first ends
-
-pub whole_first : (pen : Option Knowledge) (q : Knowledge) (table : TableId) (v : View) → pen ≡ Some q → known_to table v ≡ q → IsWhole pen v
-whole_first pen q table v is known = record {
-  kept = λ p is_p right.
-      let q_is_p : q ≡ p = cc (is, is_p) in
-      let same : known_to table v ≡ p = known ∙ q_is_p in
-      (ap (λ (k : Knowledge). k.right) same ∙ right, ap (λ (k : Knowledge). k.seen) same);
-}
-
-pub begun_first : (pen : Option Knowledge) (passes rest : List Knowledge) → rest ≡ passes → HaveBegun pen passes rest
-begun_first pen passes rest same = record { begun = λ p is right all. subst (λ (l : List Knowledge). All (λ (q : Knowledge). IsPrefix q.seen p.seen) l) same all }
-
-pub same_first : (table : TableId) (count : ℕ) (d : DeskState) (passes rest : List Knowledge) → record { table = table; passes = count } ≡ d → All (λ q. q.table ≡ d.table) passes → rest ≡ passes → All (λ q. q.table ≡ table) rest
-same_first table count d passes rest is all same =
-    let all_there : All (λ (q : Knowledge). q.table ≡ table) passes = subst (λ (t : TableId). All (λ (q : Knowledge). q.table ≡ t) passes) (sym (ap (λ (s : DeskState). s.table) is)) all in
-    subst (λ (l : List Knowledge). All (λ (q : Knowledge). q.table ≡ table) l) (sym same) all_there
+use Rattle.call_seats.specs.Views.{longer, made_by}
+use Rattle.call_seats.specs.Passes.{IsOf, Knowledge, SawOneList, met}
+use Rattle.call_seats.proofs.Beginnings.{longer_whole_left, prefix_self}
 
 -- ---- one that ends
 
-module _ (table : TableId) (q : Knowledge) (items rest : List Knowledge) (same : All (λ q. q.table ≡ table) items) (next : items ≡ q ∷ rest) where
-  same_here : All (λ q. q.table ≡ table) (q ∷ rest)
-  same_here = subst (λ (l : List Knowledge). All (λ (q : Knowledge). q.table ≡ table) l) next same
+module _ (whole p : Knowledge) (right : whole.right ≡ true) (saw : SawOneList whole p) where
+  begins : IsPrefix p.seen whole.seen
+  begins = saw.first_all right
 
-  pub same_rest : All (λ q. q.table ≡ table) rest
-  same_rest = All-tail (λ (q : Knowledge). q.table ≡ table) q rest same_here
+  longest : longer whole.seen p.seen ≡ whole.seen
+  longest = longer_whole_left whole.seen p.seen whole.seen refl begins
 
-  pub ended_at : (seat : Seat (Unit {0}) View) → known_to seat.table_id seat.me.0 ≡ q → 0 < table.words → IsAt seat table
-  ended_at seat known word = record { same = ap (λ (k : Knowledge). k.table) known ∙ All-head (λ (q : Knowledge). q.table ≡ table) q rest same_here; word = word }
+  pub whole_still : (met whole p).0 ≡ whole
+  whole_still = λ i. record whole { right = (ap (λ (b : Bool). b || p.right) right ∙ sym right) i; seen = longest i }
 
-module _ (pen : Option Knowledge) (v w : View) (old : IsWhole pen v) (t : Tells (joined v w)) where
-  pub still_whole : IsWhole pen (joined v w)
-  still_whole = record {
-    kept = λ p is right. let o = old.kept p is right in (ap (λ (b : Bool). b || w.right) o.0, longer_whole_left v.seen w.seen v.seen refl (t.one_whole o.0) ∙ o.1);
-  }
+  pub told_all : (met whole p).1 ≡ record p { right = false; seen = whole.seen }
+  told_all = λ i. record p { right = false; seen = longest i }
 
-  pub one_more : (passes items rest : List Knowledge) (q : Knowledge) (table : TableId) → HaveBegun pen passes items → items ≡ q ∷ rest → known_to table w ≡ q → HaveBegun pen passes rest
-  one_more passes items rest q table so_far next known = record {
-    begun = λ p is right all.
-        let o = old.kept p is right in
-        let seen : w.seen ≡ q.seen = ap (λ (k : Knowledge). k.seen) known in
-        let mine : IsPrefix q.seen p.seen = subst (λ (l : List Mark × List Mark). IsPrefix l.0 l.1) (λ i. (seen i, o.1 i)) (t.one_whole o.0) in
-        so_far.begun p is right (subst (λ (l : List Knowledge). All (λ (q : Knowledge). IsPrefix q.seen p.seen) l) (sym next) (All-cons (λ (q : Knowledge). IsPrefix q.seen p.seen) q rest mine all));
-  }
+  pub is_of : made_by (met whole p).1.number (met whole p).1.seen ≡ (met whole p).1.made → IsOf whole.seen p
+  is_of owns = record { begins = begins; made = sym (ap (λ (k : Knowledge). made_by k.number k.seen) told_all) ∙ owns ∙ ap (λ (k : Knowledge). k.made) told_all }
 
--- ---- all have ended
+-- ---- all of them
+
+-- the pen's pass is as it was, where it has the right
+pub record IsWhole (pen : Option Knowledge) (whole : Knowledge) : Type 0 where
+  pub kept : (p : Knowledge) → pen ≡ Some p → p.right ≡ true → whole ≡ p
+
+-- each pass is told of, if those that are left are
+pub record HaveTold (pen : Option Knowledge) (passes rest : List Knowledge) : Type 0 where
+  pub told : (p : Knowledge) → pen ≡ Some p → p.right ≡ true → All (IsOf p.seen) rest → All (IsOf p.seen) passes
+
+pub whole_first : (pen : Option Knowledge) (q : Knowledge) → pen ≡ Some q → IsWhole pen q
+whole_first pen q is = record { kept = λ p is_p right. cc (is, is_p) }
+
+pub told_first : (pen : Option Knowledge) (passes rest : List Knowledge) → rest ≡ passes → HaveTold pen passes rest
+told_first pen passes rest same = record { told = λ p is right all. subst (λ (l : List Knowledge). All (IsOf p.seen) l) same all }
+
+pub whole_on : (pen : Option Knowledge) (old new : Knowledge) → IsWhole pen old → (old.right ≡ true → new ≡ old) → IsWhole pen new
+whole_on pen old new so_far still = record { kept = λ p is right. let same = so_far.kept p is right in still (ap (λ (k : Knowledge). k.right) same ∙ right) ∙ same }
+
+pub told_on : (pen : Option Knowledge) (passes items rest : List Knowledge) (q whole : Knowledge) → IsWhole pen whole → HaveTold pen passes items → items ≡ q ∷ rest → (whole.right ≡ true → IsOf whole.seen q) → HaveTold pen passes rest
+told_on pen passes items rest q whole so_far told next one = record {
+  told = λ p is right all.
+      let same = so_far.kept p is right in
+      let mine : IsOf p.seen q = subst (λ (k : Knowledge). IsOf k.seen q) same (one (ap (λ (k : Knowledge). k.right) same ∙ right)) in
+      told.told p is right (subst (λ (l : List Knowledge). All (IsOf p.seen) l) (sym next) (All-cons (IsOf p.seen) q rest mine all));
+}
 
 none_left : (items : List Knowledge) → length items ≡ 0 → items ≡ []
 none_left [] none = refl
 none_left (q ∷ items) none = absurd (omega arith)
 
-pub all_ended : (pen : Option Knowledge) (passes items : List Knowledge) → HaveBegun pen passes items → length items ≡ 0 → IfSome pen (λ p. p.right ≡ true → All (λ q. IsPrefix q.seen p.seen) passes)
-all_ended None passes items so_far none = tt
-all_ended (Some p) passes items so_far none =
-    λ right. so_far.begun p refl right (subst (λ (l : List Knowledge). All (λ (q : Knowledge). IsPrefix q.seen p.seen) l) (sym (none_left items none)) (λ k d lt. absurd (omega arith)))
+pub all_told : (pen : Option Knowledge) (passes items : List Knowledge) → HaveTold pen passes items → length items ≡ 0 → IfSome pen (λ p. p.right ≡ true → All (IsOf p.seen) passes)
+all_told None passes items so_far none = tt
+all_told (Some p) passes items so_far none = λ right. so_far.told p refl right (subst (λ (l : List Knowledge). All (IsOf p.seen) l) (sym (none_left items none)) (λ k d lt. absurd (omega arith)))

@@ -1,9 +1,8 @@
 //! The desk: gives passes out, publishes entries for them, and lets their holders meet.
 ghost use Rattle.std.specs.Prelude.{◌≡◌, ◌-◌, ◌<◌, ◌≤◌, ◌^◌, ◌↔◌, length, true, Some, IfOk, IfSome, IsSome, IsTrue, All, option_map};
-ghost use Rattle.std.specs.Option.{ForSome};
-ghost use mathlib.Core.List.{IsPrefix};
+ghost use Rattle.std.specs.Option.{ForSome, option_copied};
 ghost use Rattle.call_seats.specs.Views.{made_by};
-ghost use Rattle.call_seats.specs.Passes.{new_pass, new_passes, has_number, AreAll, published, met, SawOneList};
+ghost use Rattle.call_seats.specs.Passes.{new_pass, new_passes, has_number, AreAll, IsOf, PublishedFor, published, met, SawOneList};
 
 use crate::passes::{Pass, Passes, Pen};
 use crate::steps;
@@ -82,6 +81,23 @@ impl Desk {
         Pass { number, seat }
     }
 
+    /// Publishes the entry, if there is one, for a pass that comes to the pen's, and gives that pass back. Both have seen all then, and the right stays with
+    /// the pen's pass.
+    pub fn publish_for(&self, whole: Pass, pass: Pass, entry: Option<&Entry>) -> (Pass, Pass)
+        requires same { (whole.table ≡ self.now.table) × (pass.table ≡ self.now.table) }
+        requires right { whole.right ≡ true }
+        requires room { length whole.seen < 2 ^ 64 - 1 }
+        ensures { PublishedFor (option_copied entry.entry) whole pass result.0 result.1 }
+    {
+        let (pass, whole) = self.meet(pass, whole);
+        let pass = match entry {
+            Some(entry) => self.append(pass, entry),
+            None => pass,
+        };
+        let (whole, pass) = self.meet(whole, pass);
+        (whole, self.look(pass))
+    }
+
     /// Tells that of its own entries the pass has seen just those that it made.
     pub fn look(&self, pass: Pass) -> Pass
         requires { pass.table ≡ self.now.table }
@@ -126,30 +142,33 @@ impl Desk {
         true
     }
 
-    /// Ends the desk, and all passes with it. Where the pen has the right, what each pass has seen begins what the pen has seen.
+    /// Ends the desk, and all passes with it. Where the pen has the right it has seen all that was published, and each pass made just its entries of that.
     pub fn close(self, pen: Pen, passes: Passes)
         requires all { AreAll self.passes passes }
         requires pen { ForSome pen.pass (λ p. p.table ≡ self.table) }
         requires same { All (λ p. p.table ≡ self.table) passes }
-        ensures { IfSome pen.pass (λ p. p.right ≡ true → All (λ q. IsPrefix q.seen p.seen) passes) }
+        ensures { IfSome pen.pass (λ p. p.right ≡ true → All (IsOf p.seen) passes) }
     {
-        let Some(
-            Pass {
-                number: _,
-                seat: mut whole,
-            },
-        ) = pen.pass
-        else {
+        let Some(mut whole) = pen.pass else {
             return;
         };
         for pass in passes.into_vec() {
-            let Pass {
-                number: _,
-                seat: ended,
-            } = pass;
-            steps::join(&self.table, &mut whole, ended);
-            steps::look(&self.table, &mut whole);
+            whole = self.end(whole, pass);
         }
+    }
+
+    /// Ends a pass, which tells the other one all that it has seen.
+    fn end(&self, whole: Pass, pass: Pass) -> Pass
+        requires { (whole.table ≡ self.now.table) × (pass.table ≡ self.now.table) }
+        ensures table { result.table ≡ self.now.table }
+        ensures kept { whole.right ≡ true → result ≡ whole }
+        ensures told { whole.right ≡ true → IsOf whole.seen pass }
+    {
+        let (whole, pass) = self.meet(whole, pass);
+        let Pass { number: _, seat: ended } = self.look(pass);
+        let Pass { number, mut seat } = whole;
+        steps::join(&self.table, &mut seat, ended);
+        Pass { number, seat }
     }
 }
 

@@ -3,7 +3,7 @@ pub mod Holding
 pub mod Issuing
 pub mod Keeping
 pub mod Lacking
-pub mod Numbering
+pub mod Publishing
 pub mod Replies
 pub mod RunDeeds
 pub mod Sending

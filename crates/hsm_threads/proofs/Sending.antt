@@ -11,6 +11,8 @@ use Rattle.std.specs.contracts.sync.Mutex as mutex
 use Rattle.std.proofs.Crossing.{crosses}
 use Rattle.disk_model.specs.declared.device.Disk as disk
 use Rattle.call_lists.proofs.lists.CallLists.TheSendSync.{the_send as lists_send}
+use Rattle.call_seats.proofs.desk.Desk.TheSendSync.{the_sync as desk_sync}
+use Rattle.call_seats.proofs.passes.Pen.TheSendSync.{the_send as pen_send}
 use Rattle.hsm_core.proofs.Sending.{hsm_send}
 use Rattle.hsm_system.proofs.Sending.{system_send}
 use Rattle.hsm_system.proofs.stops.Stop.TheSendSync.{the_send as stop_send}
@@ -42,10 +44,10 @@ u32_sync = search sendable depth 20
 
 module _ (D N : RattleType) (g : disk.Ghosts D.Denot) (n : named.Ghosts N.Denot D.Denot) (s : IsSend D) (t : IsSend N) where
   pub held_send : IsSend (held.the_row D N g n)
-  held_send = view_send _ _ _ _ _ (declared_send (held_inside.the_type D N g n) (hsm_send D g s, (phantom_send N t, tt)))
+  held_send = view_send _ _ _ _ _ (declared_send (held_inside.the_type D N g n) (hsm_send D g s, (pen_send, (phantom_send N t, tt))))
 
   pub shared_sync : IsSync (shared.the_row D N g n)
-  shared_sync = declared_sync (shared.the_type D N g n) (mutex_sync _ held_send, (condvar_sync, (u32_sync, (u32_sync, tt))))
+  shared_sync = declared_sync (shared.the_type D N g n) (mutex_sync _ held_send, (desk_sync, (condvar_sync, (u32_sync, tt))))
 
   pub run_send : IsSend (run.the_row D N g n)
   run_send = view_send _ _ _ _ _ (declared_send (run_inside.the_type D N g n) (system_send D g s, (lists_send, (option_send _ stop_send, (phantom_send N t, tt)))))

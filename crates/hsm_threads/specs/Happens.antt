@@ -45,7 +45,3 @@ pub record IsEvent {D : Type 0} (g : disk.Ghosts D) (opened_as : Option (FileSto
   pub held : IsHeld opened_as new
   pub kept : IsKept g new
   pub safe : IsSafeNow g new
-
--- whatever others did before and do behind it
-abbrev pub Happens : {D : Type 0} → disk.Ghosts D → Option (FileStore D) → Actor → Action → Answer → Type 0
-Happens {D = D} g opened_as actor asked given = (old : Store D) × (new : Store D) × IsEvent g opened_as actor asked given old new

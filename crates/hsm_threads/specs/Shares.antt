@@ -1,5 +1,6 @@
--- What callers of a shared store have and are told.
-use Rattle.std.specs.Prelude.{ℕ, ◌≡◌, ◌+◌, List, [], ◌∷◌, Option, length}
+-- What callers of a shared store are told.
+use Rattle.std.specs.Prelude.{ℕ, ◌≡◌, List, [], ◌∷◌, Option}
+use mathlib.Core.List.{IsPrefix}
 use Rattle.disk_model.specs.declared.device.Disk as disk
 use Rattle.hsm_types.specs.declared.calls.Call.{Call}
 use Rattle.hsm_types.specs.declared.calls.Reply.{Reply}
@@ -8,24 +9,14 @@ use Rattle.plain_model.specs.declared.entries.Action.{Action}
 use Rattle.plain_model.specs.declared.entries.Action.TheVariants as action
 use Rattle.plain_model.specs.declared.entries.Actor.TheVariants.{Caller}
 use Rattle.plain_model.specs.declared.entries.Answer.TheVariants as answer
+use Rattle.call_seats.specs.Passes.{Knowledge}
 use Rattle.file_store.specs.Stores.{Store as FileStore}
 use Rattle.hsm_core.specs.Ready.{ready}
 use Rattle.hsm_core.specs.Store.{Store}
 use Rattle.hsm_core.specs.declared.store.Ready.TheVariants.{Now}
-use Rattle.hsm_threads.specs.Happens.{Happens, IsEvent}
-use Rattle.hsm_threads.specs.declared.passes.Step.{Step}
-use Rattle.hsm_threads.specs.declared.passes.Step.TheVariants as step
-
--- ---- passes
-
--- their numbers go on from that one
-abbrev pub AreFrom : ℕ → List ℕ → Type 0
-AreFrom first [] = Unit {0}
-AreFrom first (number ∷ passes) = (number ≡ first) × AreFrom (first + 1) passes
-
--- so many, one of each number
-abbrev pub AreAll : ℕ → List ℕ → Type 0
-AreAll count passes = (length passes ≡ count) × AreFrom 1 passes
+use Rattle.hsm_threads.specs.Published.{Happens, Publishes}
+use Rattle.hsm_threads.specs.declared.shared.Step.{Step}
+use Rattle.hsm_threads.specs.declared.shared.Step.TheVariants as step
 
 -- ---- replies
 
@@ -40,17 +31,27 @@ HasEnded (Blocked token) = ⊥
 HasEnded (Still token) = ⊥
 HasEnded reply = Unit {0}
 
+-- a reply, and the pass that came with it
+pub record Told : Type 0 where
+  pub reply : Reply
+  pub pass : Knowledge
+
 module _ {D : Type 0} (g : disk.Ghosts D) (opened_as : Option (FileStore D)) (c : ℕ) where
   -- the caller was told so by its resume, where its access might go on
-  abbrev pub IsToldThen : Reply → Type 0
-  IsToldThen reply = (old : Store D) × (new : Store D) × IsEvent g opened_as (Caller c) action.Resume (answer.Call reply) old new × (ready old c ≡ Now)
+  abbrev pub IsToldThen : Knowledge → Told → Type 0
+  IsToldThen p t = (old : Store D) × (new : Store D) × Publishes g opened_as (Caller c) action.Resume (answer.Call t.reply) p t.pass old new × (ready old c ≡ Now)
 
-  -- The replies to a call, the last one first: that to its issue, and one to a resume behind each that tells of waiting.
-  abbrev pub AreReplies : Call → List Reply → Type 0
-  AreReplies call [] = ⊥
-  AreReplies call (reply ∷ []) = Happens g opened_as (Caller c) (action.Issue call) (answer.Call reply)
-  AreReplies call (reply ∷ (last ∷ more)) = IsToldThen reply × (HasEnded last → ⊥) × AreReplies call (last ∷ more)
+  -- The replies to a call that was begun with that pass, the last one first: that to its issue, and one to a resume behind each that tells of waiting.
+  abbrev pub AreReplies : Call → Knowledge → List Told → Type 0
+  AreReplies call p [] = ⊥
+  AreReplies call p (t ∷ []) = Happens g opened_as (Caller c) (action.Issue call) (answer.Call t.reply) p t.pass
+  AreReplies call p (t ∷ (last ∷ more)) = IsToldThen last.pass t × (HasEnded last.reply → ⊥) × AreReplies call p (last ∷ more)
 
-  -- the call ends with the first that doesn't
-  abbrev pub EndsCall : Call → Reply → Type 0
-  EndsCall call reply = HasEnded reply × ((before : List Reply) × AreReplies call (reply ∷ before))
+  -- The call ends with the first that doesn't. What the pass had seen before the call begins what it has seen then.
+  pub record EndsCall (call : Call) (p : Knowledge) (reply : Reply) (q : Knowledge) : Type 0 where
+    pub ended : HasEnded reply
+    pub before : List Told
+    pub replies : AreReplies call p (record { reply = reply; pass = q } ∷ before)
+    pub begins : IsPrefix p.seen q.seen
+    pub number : q.number ≡ p.number
+    pub at : q.table ≡ p.table

@@ -3,13 +3,11 @@
 
 mod held;
 mod named;
-mod passes;
 mod run;
 mod shared;
 mod steps;
 
 pub use named::Named;
-pub use passes::{Pass, Step};
 pub use run::{Next, Run};
-pub use shared::Shared;
+pub use shared::{Shared, Step};
 pub use steps::Asked;

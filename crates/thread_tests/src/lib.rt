@@ -2,6 +2,8 @@
 #![tactic(auto)]
 
 #[cfg(test)]
+mod passing;
+#[cfg(test)]
 mod recalling;
 #[cfg(test)]
 mod running;

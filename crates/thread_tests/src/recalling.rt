@@ -1,10 +1,12 @@
 //! A caller whose access waits, in a thread of its own, while recall is stepped in another: its answer has the bytes that were fetched.
-ghost use Rattle.std.specs.Prelude.{◌≡◌, [], Some};
+ghost use Rattle.std.specs.Prelude.{◌≡◌, ◌≤◌, [], true, Some, IfSome};
+ghost use Rattle.call_seats.specs.Passes.{new_pass, new_passes};
 
-use crate::stores::{create, new_store, read, write};
+use crate::stores::{create, new_store, read, two_of, write};
+use call_seats::{Desk, Pass, Passes, Pen};
 use disk_model::SureDisk;
 use hsm_core::Hsm;
-use hsm_threads::{Named, Pass, Shared};
+use hsm_threads::{Named, Shared};
 use hsm_types::{
     ALL_FLAGS, Act, Bytes, DmCall, FileKey, Fingerprint, Handle, Heard, Place, Region, Regions,
     Reply, Sid, StubEntry, Token, Verified, Word,
@@ -88,10 +90,11 @@ fn fill<N: Named<SureDisk>, R: Wait>(
     alloc: Global,
     shared: &Shared<SureDisk, N>,
     pass: Pass,
-) -> Option<Pass> {
-    if pass.number() > shared.callers() {
-        return None;
-    }
+) -> Option<Pass>
+    requires table { pass.table ≡ N.table }
+    requires caller { (1 ≤ pass.number) × (pass.number ≤ shared.now.callers) }
+    ensures { IfSome result (λ back. (back.table ≡ N.table) × (back.number ≡ pass.number)) }
+{
     let make = create(alloc, LETTER).ok()?;
     let fill = write(alloc, LETTER, LEN).ok()?;
     let (_, pass) = shared.call(rt, alloc, pass, make);
@@ -105,7 +108,10 @@ fn punch<N: Named<SureDisk>, R: Wait>(
     alloc: Global,
     shared: &Shared<SureDisk, N>,
     mut pass: Pass,
-) -> Option<Pass> {
+) -> Option<Pass>
+    requires { pass.table ≡ N.table }
+    ensures { IfSome result (λ back. back.table ≡ N.table) }
+{
     for (sid, call) in punching(alloc).ok()? {
         let (_, back) = shared.dm(rt, alloc, pass, sid, call);
         pass = back;
@@ -119,10 +125,10 @@ fn reads<N: Named<SureDisk>, R: Wait>(
     alloc: Global,
     shared: &Shared<SureDisk, N>,
     pass: Pass,
-) -> bool {
-    if pass.number() > shared.callers() {
-        return false;
-    }
+) -> bool
+    requires table { pass.table ≡ N.table }
+    requires caller { (1 ≤ pass.number) × (pass.number ≤ shared.now.callers) }
+{
     let Ok(call) = read(alloc, LETTER, LEN as u64) else {
         return false;
     };
@@ -147,7 +153,9 @@ fn recall<N: Named<SureDisk>, R: Wait>(
     alloc: Global,
     shared: &Shared<SureDisk, N>,
     mut pass: Pass,
-) {
+)
+    requires { pass.table ≡ N.table }
+{
     let mut machine = Recaller::start(alloc);
     let mut heard = Heard::Nothing;
     let mut has_fetched = false;
@@ -179,22 +187,30 @@ fn share<N: Named<SureDisk> + Send + Sync, R: Threads + Wait + Sync>(
     rt: &R,
     alloc: Global,
     hsm: Hsm<SureDisk>,
+    desk: Desk,
+    pen: Pen,
+    passes: Passes,
 ) -> Option<bool>
     requires named { N.opened ≡ Some hsm.opened }
+    requires table { desk.table ≡ N.table }
     requires empty { hsm.history ≡ [] }
+    requires pen { pen.pass ≡ Some (new_pass desk.table true 0) }
+    requires count { desk.passes ≡ 2 }
+    requires passes { passes ≡ new_passes desk.table 2 }
 {
-    let Ok((shared, mut passes)) = Shared::<SureDisk, N>::open(alloc, hsm, 1, 1) else {
-        return None;
-    };
-    let other = passes.pop()?;
-    let caller = passes.pop()?;
+    let shared = Shared::<SureDisk, N>::open(hsm, desk, pen, &passes, 1);
+    let (caller, other) = two_of(passes)?;
     let ours = &shared;
     let caller = fill(rt, alloc, ours, caller)?;
     let other = punch(rt, alloc, ours, other)?;
-    let (has_read, _) = thread::join(
+    let (has_read, ()) = thread::join(
         rt,
-        move || reads(rt, alloc, ours, caller),
-        move || recall(rt, alloc, ours, other),
+        move || -> bool
+            requires { (caller.table ≡ N.table) × (1 ≤ caller.number) × (caller.number ≤ ours.now.callers) }
+        { reads(rt, alloc, ours, caller) },
+        move || -> ()
+            requires { other.table ≡ N.table }
+        { recall(rt, alloc, ours, other) },
     );
     Some(has_read)
 }
@@ -202,7 +218,8 @@ fn share<N: Named<SureDisk> + Send + Sync, R: Threads + Wait + Sync>(
 fn shared(rt: &(impl Threads + Wait + Sync), alloc: Global, hsm: Hsm<SureDisk>) -> Option<bool>
     requires { hsm.history ≡ [] }
 {
-    share::<Brand, _>(rt, alloc, hsm)
+    let (desk, pen, passes) = Desk::new(alloc, 2).ok()?;
+    share::<Brand, _>(rt, alloc, hsm, desk, pen, passes)
 }
 
 fn run(rt: &(impl Threads + Wait + Sync), alloc: Global) -> Option<bool> {

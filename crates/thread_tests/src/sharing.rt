@@ -1,11 +1,13 @@
-//! Two callers and a session, each in a thread of its own, over one store that they share.
-ghost use Rattle.std.specs.Prelude.{◌≡◌, [], Some};
+//! Two callers, each in a thread of its own, over one store that they share, and a session that one of them has.
+ghost use Rattle.std.specs.Prelude.{◌≡◌, ◌≤◌, [], true, Some};
+ghost use Rattle.call_seats.specs.Passes.{new_pass, new_passes};
 
-use crate::stores::{Counts, counts_of, create, new_store, write};
+use crate::stores::{Counts, counts_of, create, new_store, two_of, write};
+use call_seats::{Desk, Pass, Passes, Pen};
 use disk_model::SureDisk;
 use hsm_core::Hsm;
-use hsm_threads::{Named, Pass, Shared};
-use hsm_types::{Call, DmCall, Reply, Sid};
+use hsm_threads::{Named, Shared};
+use hsm_types::{DmCall, Reply, Sid};
 use std::alloc::{AllocError, Global};
 use std::marker::Brand;
 use std::sync::Wait;
@@ -20,10 +22,11 @@ fn fill<N: Named<SureDisk>, R: Wait>(
     shared: &Shared<SureDisk, N>,
     pass: Pass,
     letter: u8,
-) -> (bool, Pass) {
-    if pass.number() > shared.callers() {
-        return (false, pass);
-    }
+) -> (bool, Pass)
+    requires table { pass.table ≡ N.table }
+    requires caller { (1 ≤ pass.number) × (pass.number ≤ shared.now.callers) }
+    ensures { result.1.table ≡ N.table }
+{
     let (Ok(make), Ok(fill)) = (create(alloc, letter), write(alloc, letter, 100)) else {
         return (false, pass);
     };
@@ -35,43 +38,88 @@ fn fill<N: Named<SureDisk>, R: Wait>(
     )
 }
 
-/// Both callers in threads of their own, and in between a session that asks which sessions there are.
+/// The same, behind a session that asks which sessions there are.
+fn ask_and_fill<N: Named<SureDisk>, R: Wait>(
+    rt: &R,
+    alloc: Global,
+    shared: &Shared<SureDisk, N>,
+    pass: Pass,
+    letter: u8,
+) -> (bool, Pass)
+    requires table { pass.table ≡ N.table }
+    requires caller { (1 ≤ pass.number) × (pass.number ≤ shared.now.callers) }
+    ensures { result.1.table ≡ N.table }
+{
+    let (_, pass) = shared.dm(rt, alloc, pass, Sid(0), DmCall::GetAllSessions);
+    fill(rt, alloc, shared, pass, letter)
+}
+
+/// Both callers in threads of their own. Whether each was answered that all is done.
+fn fill_beside<N: Named<SureDisk> + Send + Sync, R: Threads + Wait + Sync>(
+    rt: &R,
+    alloc: Global,
+    shared: &Shared<SureDisk, N>,
+    first: Pass,
+    second: Pass,
+) -> (bool, Pass, Pass)
+    requires tables { (first.table ≡ N.table) × (second.table ≡ N.table) }
+    requires first { (1 ≤ first.number) × (first.number ≤ shared.now.callers) }
+    requires second { (1 ≤ second.number) × (second.number ≤ shared.now.callers) }
+    ensures { (result.1.table ≡ N.table) × (result.2.table ≡ N.table) }
+{
+    let ((one, first), (two, second)) = thread::join(
+        rt,
+        move || -> (bool, Pass)
+            requires { (first.table ≡ N.table) × (1 ≤ first.number) × (first.number ≤ shared.now.callers) }
+            ensures { result.1.table ≡ N.table }
+        { fill(rt, alloc, shared, first, b'a') },
+        move || -> (bool, Pass)
+            requires { (second.table ≡ N.table) × (1 ≤ second.number) × (second.number ≤ shared.now.callers) }
+            ensures { result.1.table ≡ N.table }
+        { ask_and_fill(rt, alloc, shared, second, b'b') },
+    );
+    (one && two, first, second)
+}
+
+/// Gives the passes back one by one. Until both are there the store goes on.
+fn close<N: Named<SureDisk>>(
+    alloc: Global,
+    shared: Shared<SureDisk, N>,
+    first: Pass,
+    second: Pass,
+) -> Option<Hsm<SureDisk>>
+    requires tables { (first.table ≡ N.table) × (second.table ≡ N.table) }
+{
+    let mut passes = Vec::with_capacity(alloc, 2).ok()?;
+    passes.push(second).ok()?;
+    let Err((shared, passes)) = shared.close(Passes::from(passes)) else {
+        return None;
+    };
+    let mut passes = passes.into_vec();
+    passes.push(first).ok()?;
+    shared.close(Passes::from(passes)).ok()
+}
+
 fn share<N: Named<SureDisk> + Send + Sync, R: Threads + Wait + Sync>(
     rt: &R,
     alloc: Global,
     hsm: Hsm<SureDisk>,
+    desk: Desk,
+    pen: Pen,
+    passes: Passes,
 ) -> Option<Hsm<SureDisk>>
     requires named { N.opened ≡ Some hsm.opened }
+    requires table { desk.table ≡ N.table }
     requires empty { hsm.history ≡ [] }
+    requires pen { pen.pass ≡ Some (new_pass desk.table true 0) }
+    requires count { desk.passes ≡ 2 }
+    requires passes { passes ≡ new_passes desk.table 2 }
 {
-    let Ok((shared, mut passes)) = Shared::<SureDisk, N>::open(alloc, hsm, 2, 1) else {
-        return None;
-    };
-    let other = passes.pop()?;
-    let second = passes.pop()?;
-    let first = passes.pop()?;
-    let ours = &shared;
-    let ((one, first), ((two, second), other)) = thread::join(
-        rt,
-        move || fill(rt, alloc, ours, first, b'a'),
-        move || {
-            let (_, other) = ours.dm(rt, alloc, other, Sid(0), DmCall::GetAllSessions);
-            (fill(rt, alloc, ours, second, b'b'), other)
-        },
-    );
-    passes.push(first).ok()?;
-    passes.push(second).ok()?;
-    if !one || !two {
-        return None;
-    }
-    match shared.close(passes) {
-        // A pass is still out.
-        Ok(_) => None,
-        Err((shared, mut passes)) => {
-            passes.push(other).ok()?;
-            shared.close(passes).ok()
-        }
-    }
+    let shared = Shared::<SureDisk, N>::open(hsm, desk, pen, &passes, 2);
+    let (first, second) = two_of(passes)?;
+    let (done, first, second) = fill_beside(rt, alloc, &shared, first, second);
+    let hsm = close(alloc, shared, first, second)?;
+    if done { Some(hsm) } else { None }
 }
 
 fn shared(
@@ -81,7 +129,8 @@ fn shared(
 ) -> Option<Hsm<SureDisk>>
     requires { hsm.history ≡ [] }
 {
-    share::<Brand, _>(rt, alloc, hsm)
+    let (desk, pen, passes) = Desk::new(alloc, 2).ok()?;
+    share::<Brand, _>(rt, alloc, hsm, desk, pen, passes)
 }
 
 fn run(rt: &(impl Threads + Wait + Sync), alloc: Global) -> Option<Counts> {

@@ -1,6 +1,7 @@
 //! A store in memory, calls on it, and what callers and sessions did with it.
-ghost use Rattle.std.specs.Prelude.{◌≡◌, [], IfOk};
+ghost use Rattle.std.specs.Prelude.{◌≡◌, ◌∷◌, [], IfOk, IfSome};
 
+use call_seats::{Pass, Passes};
 use commit_slots::Layout;
 use disk_model::SureDisk;
 use hsm_core::Hsm;
@@ -20,6 +21,20 @@ pub(crate) fn new_store(alloc: Global) -> Result<Hsm<SureDisk>, AllocError>
     match Hsm::open(alloc, disk) {
         Ok(hsm) => Ok(hsm),
         Err(_) => Err(AllocError),
+    }
+}
+
+/// The passes of a list of two.
+pub(crate) fn two_of(passes: Passes) -> Option<(Pass, Pass)>
+    ensures { IfSome result (λ two. passes ≡ two.0 ∷ two.1 ∷ []) }
+{
+    let mut passes = passes.into_vec();
+    let second = passes.pop()?;
+    let first = passes.pop()?;
+    if passes.is_empty() {
+        Some((first, second))
+    } else {
+        None
     }
 }
 

@@ -3,7 +3,7 @@ use denote.Param.Send.{param_send, arg_send, shr_send}
 use Rattle.std.proofs.Crossing.{send as heap_send}
 use Rattle.disk_model.proofs.sure.SureDisk.TheSendSync.{the_send as disk_send}
 use Rattle.hsm_threads.proofs.Sending.{shared_sync}
-use Rattle.hsm_threads.proofs.passes.Pass.TheSendSync.{the_send as pass_send}
+use Rattle.call_seats.proofs.passes.Pass.TheSendSync.{the_send as pass_send}
 use Rattle.thread_tests.proofs.Sending.{four_send}
 use Rattle.thread_tests.proofs.recalling.share.Goals as goal
 

@@ -1,18 +1,32 @@
-use Rattle.std.proofs.Common.{subst}
+use Rattle.std.proofs.Common.{◌≡◌, ◌<◌, ◌-◌, ◌^◌, ◌∙◌, length, ap, sym, subst, arith}
 use Rattle.plain_model.specs.declared.entries.Action.TheVariants as action
 use Rattle.plain_model.specs.declared.entries.Actor.TheVariants.{Caller}
 use Rattle.plain_model.specs.declared.entries.Answer.TheVariants as answer
+use Rattle.hsm_core.specs.Answers.{entry_of}
 use Rattle.hsm_core.specs.Store.{Store}
-use Rattle.hsm_threads.specs.Happens.{IsEvent}
+use Rattle.hsm_system.proofs.AfterEvents.{event_kept_or_not}
+use Rattle.hsm_threads.specs.Published.{Publishes}
 use Rattle.hsm_threads.proofs.Holding.{event_made, held_more}
 use Rattle.hsm_threads.proofs.Lacking.{resume_lacks}
+use Rattle.hsm_threads.proofs.Publishing.{event_published, found_behind, has_room, next_entry, pen_is}
 use Rattle.hsm_threads.proofs.held.Held.resume.Goals as goal
+
+pub publish-pass-requires-clause-full : goal.publish-pass-requires-clause-full
+publish-pass-requires-clause-full g c =
+    let pen = c.self.invariant.1 in
+    let few : length c.self.inside.hsm.history < 2 ^ 64 - 1 = omega (arith, ap length c.history-before.ensures.entries, c.history-before.type_inv.1) in
+    (pen.0, pen.1, pen.2.at ∙ sym c.requires.desk, pen.2.right, has_room g.N.Named.table c.self.inside.hsm.history pen.0 (2 ^ 64 - 1) pen.2 few)
 
 pub returns : goal.returns
 returns g c =
-    subst (λ (s : Store g.row.D.Denot). IsEvent g.D.Disk g.N.Named.opened (Caller c.args.caller) action.Resume (answer.Call c.resume-reply.result) s c.resume-reply.new.self) c.self.view_is
-    (event_made g.N.Named.opened g.D.Disk (Caller c.args.caller) action.Resume tt (answer.Call c.resume-reply.result) c.self.inside.hsm c.resume-reply.new.self c.self.invariant
-    c.history.ensures.kept c.resume-reply.ensures.resumed (resume_lacks g.D.Disk c.self.inside.hsm c.resume-reply.new.self c.args.caller c.resume-reply.result c.resume-reply.ensures.resumed c.resume-reply.ensures.aborts) c.history-2.ensures.kept c.resume-reply.ensures.safe)
+    let event = event_made g.N.Named.opened g.D.Disk (Caller c.args.caller) action.Resume tt (answer.Call c.resume-reply.result) c.self.inside.hsm c.resume-reply.new.self c.self.invariant.0 c.history-before.ensures.kept c.resume-reply.ensures.resumed (resume_lacks g.D.Disk c.self.inside.hsm c.resume-reply.new.self c.args.caller c.resume-reply.result c.resume-reply.ensures.resumed c.resume-reply.ensures.aborts) c.history.ensures.kept c.resume-reply.ensures.safe in
+    let next = next_entry c.self.inside.hsm.history c.resume-reply.new.self.history (entry_of (Caller c.args.caller) action.Resume (answer.Call c.resume-reply.result)) (event_kept_or_not g.D.Disk c.self.inside.hsm (Caller c.args.caller) action.Resume (answer.Call c.resume-reply.result) c.resume-reply.new.self c.resume-reply.ensures.resumed) _ (found_behind _ _ _ _ _ c.history.ensures.entries c.history-before.ensures.entries c.get.ensures.lookup.1 c.get.ensures.lookup.3) in
+    subst (λ (s : Store g.row.D.Denot). Publishes g.D.Disk g.N.Named.opened (Caller c.args.caller) action.Resume (answer.Call c.resume-reply.result) c.args.pass c.publish-pass.result s c.resume-reply.new.self) c.self.view_is
+    (event_published g.D.Disk g.N.Named.opened g.N.Named.table (Caller c.args.caller) action.Resume (answer.Call c.resume-reply.result) c.self.inside.hsm c.resume-reply.new.self c.self.inside.pen.pass c.publish-pass.new.pen.pass c.args.pass c.publish-pass.result _ c.self.invariant.1 next c.publish-pass.ensures event)
 
 pub invariant_of-self : goal.invariant_of-self
-invariant_of-self g c = held_more g.N.Named.opened g.D.Disk (Caller c.args.caller) action.Resume tt (answer.Call c.resume-reply.result) c.self.inside.hsm c.resume-reply.new.self c.self.invariant c.resume-reply.ensures.resumed
+invariant_of-self g c =
+    let next = next_entry c.self.inside.hsm.history c.resume-reply.new.self.history (entry_of (Caller c.args.caller) action.Resume (answer.Call c.resume-reply.result)) (event_kept_or_not g.D.Disk c.self.inside.hsm (Caller c.args.caller) action.Resume (answer.Call c.resume-reply.result) c.resume-reply.new.self c.resume-reply.ensures.resumed) _ (found_behind _ _ _ _ _ c.history.ensures.entries c.history-before.ensures.entries c.get.ensures.lookup.1 c.get.ensures.lookup.3) in (
+      held_more g.N.Named.opened g.D.Disk (Caller c.args.caller) action.Resume tt (answer.Call c.resume-reply.result) c.self.inside.hsm c.resume-reply.new.self c.self.invariant.0 c.resume-reply.ensures.resumed,
+      pen_is g.D.Disk g.N.Named.opened g.N.Named.table (Caller c.args.caller) action.Resume (answer.Call c.resume-reply.result) c.self.inside.hsm c.resume-reply.new.self c.self.inside.pen.pass c.publish-pass.new.pen.pass c.args.pass c.publish-pass.result _ c.self.invariant.1 next c.publish-pass.ensures,
+    )
