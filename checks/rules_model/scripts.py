@@ -3,10 +3,11 @@ run: where a program goes on otherwise, the script only tries less."""
 
 import random
 
+from . import daemons
 from .files import BLOCK, FILE, SEGMENT, needed, numbers_of, print_of, print_text
 from .run import Run
 from .script import ACCESS, DAEMONS, FORMS, GREATEST, KINDS, OF_CALLERS, OF_NO_SESSION, handle_text, line_of, pattern
-from .store import BLOCKS, FSID, ON_TOKENS, SESSIONS
+from .store import BLOCKS, FSID, MESSAGE_BYTES, ON_TOKENS, SESSIONS
 
 NAMES = ("a", "b", "c", "d", "n" * 64)
 BAD_NAMES = ("none", "a/b", "n" * 65)
@@ -27,6 +28,8 @@ CHOICES = {
 # The most bytes in hex, with which a line is short enough.
 HEX_BYTES = 1900
 CROWDED = 830
+# The most steps after which a hostile script kills a daemon.
+MOST_STEPS = 30
 
 
 def spelled(data):
@@ -37,9 +40,10 @@ def spelled(data):
 
 
 class Maker:
-    """`asker` and `file` are what the line is about that is drawn."""
+    """`asker` and `file` are what the line is about that is drawn. After so many steps a daemon is killed."""
 
-    def __init__(self, seed):
+    def __init__(self, seed, steps):
+        self.steps = steps
         self.random = random.Random(seed)
         self.run = Run()
         self.store = self.run.store
@@ -145,6 +149,13 @@ class Maker:
             if self.store.used() + 16 <= blocks and len(self.store.waiting) < self.callers:
                 self.piece()
 
+    def fill_anew(self):
+        """Fills a new file, where no write parks, until a pass is due."""
+        caller, name = self.caller(), f"new{self.store.generations}"
+        self.add(f"{caller} create {name}")
+        for segment in range(-(-(CROWDED - self.store.used()) // 16)):
+            self.add(f"{caller} write {name} {segment * SEGMENT} p:{SEGMENT}:{self.random.randrange(256)}")
+
     def cold(self):
         """An access that needs an offline segment, where there is one."""
         there = [(name, segment) for name, file in self.store.files.items() for segment in file.offline()]
@@ -165,11 +176,14 @@ class Maker:
 
     def own_session(self):
         """A session that is no daemon's."""
-        own = [sid for sid, session in self.store.sessions.items() if session.info == "own"]
+        own = self.sessions_of("own")
         if not own and len(self.store.sessions) < SESSIONS:
             self.add("s0 session 0 own")
             own = [self.store.ids]
         return self.of(own or self.store.sessions)
+
+    def sessions_of(self, *infos):
+        return [sid for sid, session in self.store.sessions.items() if session.info in infos]
 
     def give_up(self):
         """A session seals a segment and punches it. The object is there only by chance."""
@@ -267,7 +281,7 @@ class Maker:
 
     def meddle(self):
         """A call with the session of a daemon, mostly on its tokens."""
-        sids = [sid for sid, session in self.store.sessions.items() if session.info in INFOS[1:]]
+        sids = self.sessions_of(*INFOS[1:])
         if not sids:
             return
         self.asker = sid = self.of(sids)
@@ -280,6 +294,105 @@ class Maker:
             calls += [f"{verb} {on}" for verb in ("release", "downgrade", "upgrade", "right")] + [f"request {on} {self.of(CHOICES['right'])}"] * 2
         self.add(f"s{sid} {self.of(calls)}" if self.odds(0.9) else f"s0 session {sid} {self.of(INFOS)}")
 
+    # Trouble that applications make.
+
+    def assume(self):
+        """A session takes the place of a daemon's."""
+        for sid in self.sessions_of(*INFOS[1:])[: self.of((1, 2))]:
+            self.add(f"s0 session {sid} own")
+
+    def end_session(self):
+        """The session of a daemon is ended, in the midst of its work or not."""
+        sids = self.sessions_of(*INFOS[1:])
+        if sids:
+            self.add(f"s{self.of(sids)} destroy")
+
+    def exclude(self):
+        """A token of a session's own has `excl` on a file of which something is away, between two accesses that need it."""
+        self.cold()
+        keys = [file.key for file in self.store.files.values() if file.offline()] or [file.key for file in self.store.files.values()]
+        sid = self.own_session()
+        if keys and self.add(f"s{sid} userevent x:").startswith("token "):
+            self.add(f"s{sid} request {self.store.tokens} {handle_text((FSID, *self.of(keys)))} excl")
+        self.cold()
+
+    def take_kinds(self):
+        """Two sessions share the kinds of both daemons, and something parks there."""
+        for kinds in self.of((("read", "write,truncate,nospace"), ("read,nospace", "write,truncate"), ("read,write,truncate", "nospace"))):
+            if self.add("s0 session 0 own").startswith("session "):
+                self.add(f"s{self.store.ids} setdisp {kinds}")
+        self.cold()
+
+    def give_back(self):
+        """All sessions give their kinds up, and those of daemons have them again."""
+        for sid in self.sessions_of("own"):
+            self.add(f"s{sid} setdisp -")
+        for name in DAEMONS:
+            for sid in self.sessions_of(daemons.INFOS[name])[:1]:
+                self.add(f"s{sid} setdisp {','.join(daemons.KINDS[name])}")
+
+    def flood(self):
+        """Full messages wait for a daemon before what parks then."""
+        sid, sids = self.own_session(), self.sessions_of(*INFOS[1:])
+        for _ in range(self.of((1, 1, 2, 17)) if sids else 0):
+            self.add(f"s{sid} send {self.of(sids)} p:{MESSAGE_BYTES}:{self.random.randrange(256)}")
+        self.cold()
+
+    def change_regions(self):
+        """The regions of files change between the steps of a pass, mostly so that what is away is covered and no more."""
+        self.add(self.of(("settle", "kill migrate")))
+        self.fill_anew()
+        self.add("start migrate")
+        for _ in range(self.random.randint(4, 12)):
+            for _ in range(self.random.randint(0, 5)):
+                self.add("step migrate")
+            if self.pick_file():
+                end = max(self.file.offline(), default=-1) + 1
+                regions = self.of(CHOICES["regions"]) if self.odds(0.4) else f"0:{end * SEGMENT}:7" if end else "-"
+                self.add(f"s{self.own_session()} setregion 0 {handle_text((FSID, *self.file.key))} {regions}")
+
+    def killed_after_steps(self):
+        """A daemon with something to do is killed after the script's number of steps, and started again. Between two of them it may be troubled."""
+        daemon = self.of(DAEMONS)
+        self.cold() if daemon == "recall" else self.fill_anew()
+        self.add(f"start {daemon}")
+        troubled = self.random.randint(0, 2 * MOST_STEPS)
+        for place in range(self.steps):
+            if place == troubled:
+                getattr(self, self.of(("meddle", "assume", "end_session", "exclude", "flood")))()
+            self.add(f"step {daemon}")
+        for line in (f"kill {daemon}", f"start {daemon}", "settle"):
+            self.add(line)
+
+    def continue_unrestored(self):
+        """A session hears of a read of what is away, lets it go on some times, and restores nothing."""
+        sid = self.own_session()
+        self.add(f"s{sid} setdisp read")
+        there = [(name, segment) for name, file in self.store.files.items() for segment in file.offline()]
+        name, segment = self.of(there or [("none", 0)])
+        caller = self.caller()
+        answer = self.add(f"{caller} read {name} {segment * SEGMENT} 4")
+        for _ in range(self.of((1, 2, 5))):
+            if answer.startswith("parked "):
+                self.add(f"s{sid} getevents 0 65536")
+                self.add(f"s{sid} respond {answer.split(' ')[1]} continue")
+                answer = self.add(f"{caller} resume")
+
+    def truce(self):
+        """Sessions let all go that they have, daemons begin anew, and the next accesses of what is away are served."""
+        for sid in self.sessions_of("own"):
+            session = self.store.sessions[sid]
+            while session.queue:
+                self.add(f"s{sid} getevents 0 65536")
+            for token in list(session.outstanding):
+                self.add(f"s{sid} respond {token} continue")
+            self.add(f"s{sid} setdisp -")
+        for line in (*(f"{verb} {daemon}" for daemon in DAEMONS for verb in ("kill", "start")), "settle"):
+            self.add(line)
+        for _ in range(3):
+            self.cold()
+        self.settle()
+
 
 OF_FILES = {"create": 3, "read": 8, "write": 6, "truncate": 3, "remove": 1, "stat": 1, "sync": 1, "resume": 3, "commit": 1}
 OF_MESSAGES = {"session": 2, "setdisp": 2, "getevents": 3, "findmsg": 2, "respond": 2, "userevent": 2, "send": 1, "destroy": 1}
@@ -290,6 +403,9 @@ OF_SEGMENTS = {"setregion": 2, "readinvis": 3, "writeinvis": 2, "punch": 2, "pro
 ASKED = dict.fromkeys(("sessions", "query", "disp", "tokens", "handle"), 1)
 OF_DAEMONS = {"piece": 4, "cold": 10, "write": 2, "truncate": 1, "create": 1, "remove": 1, "resume": 1, "start": 2, "settle": 4, "step": 6, "kill": 2}
 TROUBLE = {"hold": 2, "let_go": 3, "give_up": 2, "setregion": 1, "halfway": 4}
+HOSTILE = {"assume": 4, "end_session": 4, "exclude": 4, "take_kinds": 4, "give_back": 4, "flood": 3, "change_regions": 3, "killed_after_steps": 5}
+HOSTILE |= {"continue_unrestored": 3, "meddle": 6, "halfway": 4, "advance": 6, "let_go": 4, "settle": 6, "step": 4, "truce": 2, "cold": 4}
+HOSTILE |= {"give_up": 2, "write": 2, "truncate": 1, "remove": 0.5}
 # What the turns of a script of each kind are, each with its weight; how many there are at most; and whether daemons run from the first on.
 SCRIPTS = {
     "callers": (OF_FILES | OF_MESSAGES | OF_RIGHTS | OF_KEPT | ASKED | OF_CROWDS | {"advance": 30, "hold": 3, "let_go": 4}, 150, False),
@@ -297,14 +413,20 @@ SCRIPTS = {
     "daemons": (OF_DAEMONS | TROUBLE | {"fill": 1, "many_sessions": 0.2}, 50, True),
     "crowded": (OF_DAEMONS | TROUBLE | {"fill": 6, "settle": 6, "write": 8, "no_room": 1}, 40, True),
     "meddling": (OF_DAEMONS | TROUBLE | {"meddle": 20, "advance": 5, "halfway": 12}, 60, True),
+    "hostile": (HOSTILE, 24, True),
 }
+
+
+def kind_of(number):
+    return list(SCRIPTS)[number % len(SCRIPTS)]
 
 
 def script_of(seed, number):
     """The kind and the text of a script. They depend on nothing else."""
-    kind = list(SCRIPTS)[number % len(SCRIPTS)]
+    kind = kind_of(number)
     weights, turns, has_daemons = SCRIPTS[kind]
-    maker = Maker(f"{seed}/{number}")
+    # Of the hostile scripts each one kills after one step more than that before it, and begins again after the most.
+    maker = Maker(f"{seed}/{number}", number // len(SCRIPTS) % (MOST_STEPS + 1))
     for name in NAMES[: maker.random.randint(1, 3)]:
         maker.add(f"c1 create {name}")
     if has_daemons:
@@ -320,7 +442,9 @@ def script_of(seed, number):
             maker.fill(BLOCKS)
     for verb in maker.random.choices(list(weights), list(weights.values()), k=maker.random.randint(turns // 4, turns)):
         getattr(maker, verb, lambda: maker.any_line(verb))()
-    if maker.odds(0.5):
+    if kind == "hostile":
+        maker.truce()
+    elif maker.odds(0.5):
         for line in ("start recall", "start migrate", "settle"):
             maker.add(line)
     sid = maker.own_session()

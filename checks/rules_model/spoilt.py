@@ -54,8 +54,16 @@ def events_exchanged(lines):
     return lines[:one] + lines[two:end] + lines[one:two] + lines[end:]
 
 
+def settle_cut_short(lines):
+    """A settle ends though the right is gone that was in recall's way, and nobody goes on."""
+    place = found(lines, "s2 respond 1") + 1
+    end = found(lines, "s2 alloc", place)
+    return [*lines[:place], lines[end].replace("= alloc s", "= alloc o"), *lines[end + 1 :]]
+
+
 MIGRATED, ORDER, KILLED = "daemons/migrate-and-recall", "daemons/settle-resumes-in-order", "daemons/killed-in-a-recall"
 STILL, RECALL, TWICE = "parking/still-waiting", "segments/recall", "daemons/started-and-killed-twice"
+EXCL, GONE = "hostile/excl-on-an-offline-file", "hostile/session-of-recall-destroyed"
 CHANGES = (
     Change("one byte of a read", MIGRATED, "plain", "edit", "c1 resume", "00070e15", "00070e16"),
     Change("zeros for bytes that are away", RECALL, "plain", "edit", "c1 read a 0 3 = parked", "parked 1", "000000"),
@@ -85,6 +93,9 @@ CHANGES = (
     Change("a daemon that makes a session beside its own", TWICE, "session", "edit", "s0 session 1", "session 1 HSM", "session 0 HSM"),
     Change("a step with two entries", TWICE, "step", "put", "s0 session 0", new="s1 setdisp read,write,truncate = done"),
     Change("kinds of another daemon", "daemons/settle-with-nothing-to-do", "session", "edit", "s1 setdisp", "read,write,truncate", "nospace"),
+    Change("a settle that ends where recall's next act would free a read", EXCL, "settle", settle_cut_short),
+    Change("a caller that goes on while a right is in the way", EXCL, "settle", "put", "s3 getevents 0 65536 = refused Again", new="c2 resume = blocked 1"),
+    Change("a daemon that calls again in a session that is gone", GONE, "settle", "double", "s2 getevents 0 65536 = refused NoSession"),
     Change("damage that isn't there", "media/object-that-is-not-there", "response", "edit", "s2 respond 1", "abort 2", "media failed 7 0 0 1"),
 )
 
