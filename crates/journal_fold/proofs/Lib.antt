@@ -1,0 +1,2 @@
+pub mod OneFold
+pub mod OneStore

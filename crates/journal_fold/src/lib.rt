@@ -1,0 +1,8 @@
+//! What the batches of a journal make of the store that its snapshot says.
+#![tactic(auto)]
+
+mod laws;
+
+pub use laws::{
+    image_without_batches, lawful_fold, one_fold, one_meaning, one_more_batch, one_store,
+};
