@@ -1,2 +1,4 @@
 pub mod OneFold
 pub mod OneStore
+pub mod PutEntries
+pub mod WideExtents

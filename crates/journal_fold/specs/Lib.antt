@@ -1,3 +1,4 @@
 pub mod Folds
 pub mod Images
 pub mod Laws
+pub mod FoldedFiles

@@ -1,8 +1,11 @@
 //! What the batches of a journal make of the store that its snapshot says.
 #![tactic(auto)]
 
+mod entries;
+mod files;
 mod laws;
 
+pub use files::FoldedFile;
 pub use laws::{
     image_without_batches, lawful_fold, one_fold, one_meaning, one_more_batch, one_store,
 };
