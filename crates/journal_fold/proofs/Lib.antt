@@ -2,3 +2,5 @@ pub mod OneFold
 pub mod OneStore
 pub mod PutEntries
 pub mod WideExtents
+pub mod FoldedEdits
+pub mod FoldedNames

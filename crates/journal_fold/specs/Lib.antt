@@ -2,3 +2,4 @@ pub mod Folds
 pub mod Images
 pub mod Laws
 pub mod FoldedFiles
+pub mod FoldedStores

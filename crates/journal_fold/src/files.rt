@@ -81,6 +81,13 @@ impl FoldedFile {
         self.key
     }
 
+    /// What callers know it by.
+    pub fn name(&self) -> &Word
+        ensures { result.now ≡ self.now.name }
+    {
+        &self.name
+    }
+
     /// Changes the file as a record about it says. At an `Err` nothing is said of it.
     pub fn change(&mut self, change: Record) -> Result<(), AllocError>
         ensures { OnOk result (self.new ≡ file_changed change self.old) }

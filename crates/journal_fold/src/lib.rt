@@ -4,8 +4,10 @@
 mod entries;
 mod files;
 mod laws;
+mod stores;
 
 pub use files::FoldedFile;
 pub use laws::{
     image_without_batches, lawful_fold, one_fold, one_meaning, one_more_batch, one_store,
 };
+pub use stores::FoldedStore;
