@@ -4,3 +4,4 @@ pub mod PutEntries
 pub mod WideExtents
 pub mod FoldedEdits
 pub mod FoldedNames
+pub mod AloneFiles

@@ -3,3 +3,4 @@ pub mod Images
 pub mod Laws
 pub mod FoldedFiles
 pub mod FoldedStores
+pub mod Judged

@@ -1,5 +1,5 @@
 //! A file of the store while batches are taken.
-ghost use Rattle.std.specs.Prelude.{◌≡◌, ℕ, ◌+◌, ◌*◌, ◌^◌, ◌<◌, ◌/◌, map, filter, not, ◌&&◌, nat_lt, nat_le, IfOk, OnOk};
+ghost use Rattle.std.specs.Prelude.{◌≡◌, ℕ, ◌+◌, ◌*◌, ◌^◌, ◌<◌, ◌≤◌, ◌/◌, map, filter, not, ◌&&◌, nat_lt, nat_le, IfOk, OnOk, Any, MatchOption};
 ghost use Rattle.hsm_types.specs.Attributes.{without_value};
 ghost use Rattle.hsm_types.specs.Segments.{segments_in};
 ghost use Rattle.hsm_types.specs.Stubs.{stubs_below, without_stub};
@@ -88,6 +88,24 @@ impl FoldedFile {
         &self.name
     }
 
+    /// A copy of the file as a snapshot spells it. `None` where no snapshot could: a block of it is past the last that has a number there.
+    pub fn to_raw(&self, alloc: Global) -> Result<Option<RawFile>, AllocError>
+        ensures { IfOk result (λ r. MatchOption r (Any (λ e. 2 ^ 32 ≤ e.block) self.now.extents) (λ raw. raw_file raw ≡ self.now)) }
+    {
+        let Some(extents) = narrowed(alloc, self.extents.as_slice())? else {
+            return Ok(None);
+        };
+        Ok(Some(RawFile {
+            key: self.key,
+            size: self.size,
+            name: self.name.clone()?,
+            regions: self.regions.clone()?,
+            attributes: copied(alloc, self.attributes.as_slice())?,
+            extents,
+            stubs: Vec::from_slice(alloc, self.stubs.as_slice())?,
+        }))
+    }
+
     /// Changes the file as a record about it says. At an `Err` nothing is said of it.
     pub fn change(&mut self, change: Record) -> Result<(), AllocError>
         ensures { OnOk result (self.new ≡ file_changed change self.old) }
@@ -149,6 +167,37 @@ fn widened(alloc: Global, extents: &[Mapping]) -> Result<Vec<(u64, u32)>, AllocE
         .iter()
         .map(|e| (u64::from(e.block), e.place))
         .collect(alloc)
+}
+
+/// Extents with the numbers of blocks as a snapshot has them. `None` where one of them is too great.
+fn narrowed(alloc: Global, extents: &[(u64, u32)]) -> Result<Option<Vec<Mapping>>, AllocError>
+    ensures { IfOk result (λ r. MatchOption r (Any (λ e. 2 ^ 32 ≤ e.block) (map mapping_of extents.now)) (λ narrow. narrow.items ≡ map mapping_of extents.now)) }
+{
+    let mut narrow = Vec::with_capacity(alloc, extents.len())?;
+    for (block, place) in extents {
+        if *block > u64::from(u32::MAX) {
+            return Ok(None);
+        }
+        narrow.push(Mapping {
+            block: *block as u32,
+            place: *place,
+        })?;
+    }
+    Ok(Some(narrow))
+}
+
+/// A copy of attributes.
+fn copied(
+    alloc: Global,
+    attributes: &[(AttrName, Bytes)],
+) -> Result<Vec<(AttrName, Bytes)>, AllocError>
+    ensures { IfOk result (λ copy. copy.items ≡ attributes.now) }
+{
+    let mut copy = Vec::with_capacity(alloc, attributes.len())?;
+    for (name, value) in attributes {
+        copy.push((*name, value.clone()?))?;
+    }
+    Ok(copy)
 }
 
 /// Gives the blocks from that one on these places.

@@ -3,6 +3,7 @@
 
 mod entries;
 mod files;
+mod judging;
 mod laws;
 mod stores;
 
