@@ -5,3 +5,4 @@ pub mod WideExtents
 pub mod FoldedEdits
 pub mod FoldedNames
 pub mod AloneFiles
+pub mod CountedFiles

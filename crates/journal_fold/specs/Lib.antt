@@ -4,3 +4,4 @@ pub mod Laws
 pub mod FoldedFiles
 pub mod FoldedStores
 pub mod Judged
+pub mod Counted

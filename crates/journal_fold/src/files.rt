@@ -1,6 +1,6 @@
 //! A file of the store while batches are taken.
-ghost use Rattle.std.specs.Prelude.{◌≡◌, ℕ, ◌+◌, ◌*◌, ◌^◌, ◌<◌, ◌≤◌, ◌/◌, map, filter, not, ◌&&◌, nat_lt, nat_le, IfOk, OnOk, Any, MatchOption};
-ghost use Rattle.hsm_types.specs.Attributes.{without_value};
+ghost use Rattle.std.specs.Prelude.{◌≡◌, ℕ, length, ◌+◌, ◌*◌, ◌^◌, ◌<◌, ◌≤◌, ◌/◌, map, filter, not, ◌&&◌, nat_lt, nat_le, IfOk, OnOk, Any, MatchOption};
+ghost use Rattle.hsm_types.specs.Attributes.{bytes_of_attributes, without_value};
 ghost use Rattle.hsm_types.specs.Segments.{segments_in};
 ghost use Rattle.hsm_types.specs.Stubs.{stubs_below, without_stub};
 ghost use Rattle.journal_fold.specs.FoldedFiles.{mapping_of};
@@ -11,7 +11,8 @@ ghost use Rattle.snapshot_text.specs.Snapshots.{raw_file};
 
 use crate::entries::{drop_entry, put_entry};
 use hsm_types::{
-    AttrName, BLOCK_BYTES, Bytes, FileKey, Regions, SEGMENT_BLOCKS, SEGMENT_BYTES, Stub, Word,
+    ATTRIBUTE_COST, AttrName, BLOCK_BYTES, Bytes, FileKey, Regions, SEGMENT_BLOCKS, SEGMENT_BYTES,
+    Stub, Word,
 };
 use journal_records::Record;
 use snapshot_text::{Mapping, RawFile};
@@ -86,6 +87,28 @@ impl FoldedFile {
         ensures { result.now ≡ self.now.name }
     {
         &self.name
+    }
+
+    /// Its blocks, each with its place on the disk.
+    pub(crate) fn extents(&self) -> &[(u64, u32)]
+        ensures { map mapping_of result.now ≡ self.now.extents }
+    {
+        self.extents.as_slice()
+    }
+
+    /// What its attributes count.
+    pub(crate) fn attribute_bytes(&self) -> u64
+        requires { bytes_of_attributes self.now.kept.attributes < 2 ^ 32 }
+        ensures { result ≡ bytes_of_attributes self.now.kept.attributes }
+    {
+        bytes_of(self.attributes.as_slice())
+    }
+
+    /// How many stub entries it has.
+    pub(crate) fn stub_count(&self) -> u64
+        ensures { result ≡ length self.now.kept.stubs }
+    {
+        self.stubs.len() as u64
     }
 
     /// A copy of the file as a snapshot spells it. `None` where no snapshot could: a block of it is past the last that has a number there.
@@ -184,6 +207,18 @@ fn narrowed(alloc: Global, extents: &[(u64, u32)]) -> Result<Option<Vec<Mapping>
         })?;
     }
     Ok(Some(narrow))
+}
+
+/// What attributes count.
+fn bytes_of(attributes: &[(AttrName, Bytes)]) -> u64
+    requires { bytes_of_attributes attributes.now < 2 ^ 32 }
+    ensures { result ≡ bytes_of_attributes attributes.now }
+{
+    let mut bytes = 0;
+    for attribute in attributes {
+        bytes += ATTRIBUTE_COST + attribute.1.as_slice().len() as u64;
+    }
+    bytes
 }
 
 /// A copy of attributes.

@@ -6,6 +6,7 @@ mod files;
 mod judging;
 mod laws;
 mod stores;
+mod uses;
 
 pub use files::FoldedFile;
 pub use laws::{
