@@ -6,3 +6,5 @@ pub mod FoldedEdits
 pub mod FoldedNames
 pub mod AloneFiles
 pub mod CountedFiles
+pub mod UntouchedFiles
+pub mod OpenStores

@@ -5,3 +5,4 @@ pub mod FoldedFiles
 pub mod FoldedStores
 pub mod Judged
 pub mod Counted
+pub mod Open

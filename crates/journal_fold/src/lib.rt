@@ -3,6 +3,7 @@
 
 mod entries;
 mod files;
+mod fold;
 mod judging;
 mod laws;
 mod stores;

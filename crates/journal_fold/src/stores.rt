@@ -34,6 +34,7 @@ impl FoldedStore {
         ensures held { OnOk result (IsHeld self.new) }
         ensures applies { IfOk result (λ b. b ≡ true → Applies change (store_said self.old)) }
         ensures changed { IfOk result (λ b. b ≡ true → store_said self.new ≡ changed change (store_said self.old)) }
+        ensures last { IfOk result (λ b. b ≡ true → self.old.next ≤ last_generation → self.new.next ≤ last_generation) }
         ensures refused { IfOk result (λ b. b ≡ false → Applies change (store_said self.old) → last_generation < (changed change (store_said self.old)).next) }
     {
         match change {
