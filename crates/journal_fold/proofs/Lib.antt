@@ -8,3 +8,4 @@ pub mod AloneFiles
 pub mod CountedFiles
 pub mod UntouchedFiles
 pub mod OpenStores
+pub mod SettledStores

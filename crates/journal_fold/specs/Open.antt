@@ -9,7 +9,7 @@ use Rattle.journal_fold.specs.declared.stores.FoldedStore.{FoldedStore}
 use Rattle.journal_fold.specs.declared.uses.Uses.{Uses}
 use Rattle.journal_fold.specs.FoldedStores.{files_in, IsHeld}
 use Rattle.journal_fold.specs.Judged.{IsAlone}
-use Rattle.journal_fold.specs.Counted.{IsCounted}
+use Rattle.journal_fold.specs.Counted.{FitTogether, IsCounted}
 
 -- one of these inodes is that one
 abbrev pub is_touched : List ℕ → ℕ → Bool
@@ -28,3 +28,8 @@ pub record IsOpen (geometry : ℕ) (store : FoldedStore) (uses : Uses) (touched 
   pub once : Distinct touched
   pub each : AllByRecursion (IsAlone (geometry_of geometry) store.next) (untouched touched (files_in store))
   pub counted : IsCounted (geometry_of geometry) uses (untouched touched (files_in store))
+
+-- all files of the store are lawful, and fit beside one another
+pub record AreLawfulTogether (geometry : ℕ) (store : FoldedStore) : Type 0 where
+  pub each : AllByRecursion (IsAlone (geometry_of geometry) store.next) (files_in store)
+  pub fit : FitTogether (geometry_of geometry) (files_in store)

@@ -1,13 +1,15 @@
 //! Batches taken one after the other.
-ghost use Rattle.std.specs.Prelude.{◌≡◌, ◌<◌, true, false, IfOk, OnOk};
+ghost use Rattle.std.specs.Prelude.{◌≡◌, ◌<◌, ◌++◌, ◌∷◌, [], List, ℕ, true, false, IfOk, OnOk};
 ghost use Rattle.hsm_types.specs.Limits.{last_generation};
 ghost use Rattle.journal_fold.specs.FoldedStores.{store_said};
-ghost use Rattle.journal_fold.specs.Open.{is_touched, IsOpen};
+ghost use Rattle.journal_fold.specs.Open.{is_touched, IsOpen, AreLawfulTogether};
 ghost use Rattle.meta_store.specs.Batches.{changed_all, AllApply};
 
+use crate::judging::is_alone;
 use crate::stores::FoldedStore;
 use crate::uses::Uses;
 use journal_records::Records;
+use snapshot_text::geometry_of;
 use std::alloc::{AllocError, Global};
 
 /// A store behind the batches that were taken so far.
@@ -59,5 +61,39 @@ impl Fold {
             self.uses.release(file);
         }
         Ok(())
+    }
+
+    /// Judges the files that records were about, and counts them. At `false` the store isn't lawful.
+    fn settle(&mut self, alloc: Global, mut touched: Vec<u64>) -> Result<bool, AllocError>
+        requires { IsOpen self.old.geometry self.old.store self.old.uses touched.items }
+        ensures open { IfOk result (λ b. b ≡ true → IsOpen self.new.geometry self.new.store self.new.uses []) }
+        ensures refused { IfOk result (λ b. b ≡ false → AreLawfulTogether self.old.geometry self.old.store → ⊥) }
+        ensures store { self.new.store ≡ self.old.store }
+        ensures geometry { self.new.geometry ≡ self.old.geometry }
+    {
+        while let Some(ino) = touched.pop() {
+            if !self.judge(alloc, ino)? {
+                return Ok(false);
+            }
+        }
+        Ok(true)
+    }
+
+    /// Judges the file with the last inode that was touched, if there is one, and counts it. At `false` the store isn't lawful.
+    fn judge(&mut self, alloc: Global, ino: u64) -> Result<bool, AllocError>
+        requires { (others : List ℕ) × IsOpen self.old.geometry self.old.store self.old.uses (others ++ ino ∷ []) }
+        ensures open { IfOk result (λ b. b ≡ true → (others : List ℕ) → IsOpen self.old.geometry self.old.store self.old.uses (others ++ ino ∷ []) → IsOpen self.new.geometry self.new.store self.new.uses others) }
+        ensures refused { IfOk result (λ b. b ≡ false → AreLawfulTogether self.old.geometry self.old.store → ⊥) }
+        ensures store { self.new.store ≡ self.old.store }
+        ensures geometry { self.new.geometry ≡ self.old.geometry }
+    {
+        let bounds = geometry_of(self.geometry);
+        let Some(file) = self.store.files.get(&ino) else {
+            return Ok(true);
+        };
+        if !is_alone(alloc, bounds, self.store.next, file)? {
+            return Ok(false);
+        }
+        Ok(self.uses.claim(bounds, file))
     }
 }
