@@ -9,3 +9,5 @@ pub mod CountedFiles
 pub mod UntouchedFiles
 pub mod OpenStores
 pub mod SettledStores
+pub mod LawfulFolds
+pub mod GoingOn

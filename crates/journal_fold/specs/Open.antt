@@ -1,13 +1,14 @@
 -- A store in the midst of a batch. The files that its records were about are counted and judged at its end; what is known meanwhile is known of the others.
-use Rattle.std.specs.Prelude.{ℕ, ◌≤◌, List, Bool, not, filter, ◌==◌}
+use Rattle.std.specs.Prelude.{ℕ, ◌≤◌, List, [], Bool, not, filter, ◌==◌}
 use Rattle.std.specs.List.{AllByRecursion, list_any}
-use Rattle.hsm_types.specs.Limits.{last_generation}
+use Rattle.hsm_types.specs.Limits.{last_generation, last_number}
 use Rattle.plain_model.specs.Distinct.{Distinct}
 use Rattle.snapshot_text.specs.Files.{geometry_of}
-use Rattle.snapshot_text.specs.Snapshots.{SnapshotFile}
+use Rattle.snapshot_text.specs.Snapshots.{SnapshotFile, Snapshot}
+use Rattle.journal_fold.specs.declared.fold.Fold.{Fold}
 use Rattle.journal_fold.specs.declared.stores.FoldedStore.{FoldedStore}
 use Rattle.journal_fold.specs.declared.uses.Uses.{Uses}
-use Rattle.journal_fold.specs.FoldedStores.{files_in, IsHeld}
+use Rattle.journal_fold.specs.FoldedStores.{files_in, store_said, IsHeld}
 use Rattle.journal_fold.specs.Judged.{IsAlone}
 use Rattle.journal_fold.specs.Counted.{FitTogether, IsCounted}
 
@@ -33,3 +34,12 @@ pub record IsOpen (geometry : ℕ) (store : FoldedStore) (uses : Uses) (touched 
 pub record AreLawfulTogether (geometry : ℕ) (store : FoldedStore) : Type 0 where
   pub each : AllByRecursion (IsAlone (geometry_of geometry) store.next) (files_in store)
   pub fit : FitTogether (geometry_of geometry) (files_in store)
+
+-- between two batches: all files are counted, and lawful
+pub record IsFold (f : Fold) : Type 0 where
+  pub still : IsOpen f.geometry f.store f.uses []
+  pub number : f.store.number ≤ last_number
+
+-- what a snapshot would say of it
+abbrev pub fold_said : Fold → Snapshot
+fold_said f = store_said f.store

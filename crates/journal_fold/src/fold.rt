@@ -1,14 +1,17 @@
 //! Batches taken one after the other.
-ghost use Rattle.std.specs.Prelude.{◌≡◌, ◌<◌, ◌++◌, ◌∷◌, [], List, ℕ, true, false, IfOk, OnOk};
+ghost use Rattle.std.specs.Prelude.{◌≡◌, ◌<◌, ◌++◌, ◌∷◌, [], List, ℕ, true, false, Some, None, IfOk, OnOk};
 ghost use Rattle.hsm_types.specs.Limits.{last_generation};
+ghost use Rattle.journal_fold.specs.Folds.{LeadsTo, LeadsNowhere, Folds, FailsAt};
 ghost use Rattle.journal_fold.specs.FoldedStores.{store_said};
-ghost use Rattle.journal_fold.specs.Open.{is_touched, IsOpen, AreLawfulTogether};
+ghost use Rattle.journal_fold.specs.Open.{is_touched, IsOpen, AreLawfulTogether, IsFold, fold_said};
 ghost use Rattle.meta_store.specs.Batches.{changed_all, AllApply};
 
 use crate::judging::is_alone;
 use crate::stores::FoldedStore;
 use crate::uses::Uses;
-use journal_records::Records;
+use hsm_types::LAST_NUMBER;
+use journal_records::{RecordRefusal, Records, read_all};
+use meta_journal::Batch;
 use snapshot_text::geometry_of;
 use std::alloc::{AllocError, Global};
 
@@ -21,6 +24,45 @@ pub struct Fold {
 }
 
 impl Fold {
+    /// Takes batches one after the other, and tells the place of the first that isn't valid where it stands. At an `Err` nothing is said of the store.
+    pub fn take_all(&mut self, alloc: Global, batches: &[Batch]) -> Result<Option<u64>, AllocError>
+        requires { IsFold self.old }
+        ensures folds { IfOk result (λ r. r ≡ None → IsFold self.new × Folds self.old.geometry (fold_said self.old) batches.now (fold_said self.new)) }
+        ensures fails { IfOk result (λ r. (place : ℕ) → r ≡ Some place → FailsAt self.old.geometry (fold_said self.old) batches.now place) }
+        ensures geometry { self.new.geometry ≡ self.old.geometry }
+    {
+        for batch in batches {
+            if !self.take(alloc, batch)? {
+                return Ok(Some(batch.place));
+            }
+        }
+        Ok(None)
+    }
+
+    /// Takes a batch, if it is valid behind the store. At `false` it isn't, and then, as at an `Err`, nothing is said of the store.
+    pub fn take(&mut self, alloc: Global, batch: &Batch) -> Result<bool, AllocError>
+        requires { IsFold self.old }
+        ensures held { IfOk result (λ b. b ≡ true → IsFold self.new) }
+        ensures leads { IfOk result (λ b. b ≡ true → LeadsTo self.old.geometry (fold_said self.old) batch.now (fold_said self.new)) }
+        ensures nowhere { IfOk result (λ b. b ≡ false → LeadsNowhere self.old.geometry (fold_said self.old) batch.now) }
+        ensures geometry { self.new.geometry ≡ self.old.geometry }
+    {
+        let records = match read_all(alloc, batch.records.as_slice(), batch.count) {
+            Ok(records) => records,
+            Err(RecordRefusal::Bad { .. }) => return Ok(false),
+            Err(RecordRefusal::Memory) => return Err(AllocError),
+        };
+        if batch.number < self.store.number || LAST_NUMBER < batch.number {
+            return Ok(false);
+        }
+        let mut touched = Vec::new(alloc);
+        if !self.take_records(alloc, records, &mut touched)? {
+            return Ok(false);
+        }
+        self.store.number = batch.number;
+        self.settle(alloc, touched)
+    }
+
     /// Takes the records of a batch into the store, and notes which inodes they are about. At `false` they don't apply, or no batch with them could be
     /// valid.
     fn take_records(
