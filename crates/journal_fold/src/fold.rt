@@ -1,6 +1,6 @@
 //! Batches taken one after the other.
-ghost use Rattle.std.specs.Prelude.{◌≡◌, ◌<◌, ◌++◌, ◌∷◌, [], List, ℕ, true, false, Some, None, IfOk, OnOk};
-ghost use Rattle.hsm_types.specs.Limits.{last_generation};
+ghost use Rattle.std.specs.Prelude.{◌≡◌, ◌<◌, ◌≤◌, ◌++◌, ◌∷◌, [], List, ℕ, true, false, Some, None, IfOk, OnOk};
+ghost use Rattle.hsm_types.specs.Limits.{last_generation, last_number};
 ghost use Rattle.journal_fold.specs.Folds.{LeadsTo, LeadsNowhere, Folds, FailsAt};
 ghost use Rattle.journal_fold.specs.FoldedStores.{store_said};
 ghost use Rattle.journal_fold.specs.Open.{is_touched, IsOpen, AreLawfulTogether, IsFold, fold_said};
@@ -14,6 +14,7 @@ use journal_records::{RecordRefusal, Records, read_all};
 use meta_journal::Batch;
 use snapshot_text::geometry_of;
 use std::alloc::{AllocError, Global};
+use std::collections::{BTreeMap, HashMap};
 
 /// A store behind the batches that were taken so far.
 #[derive(Drop)]
@@ -24,6 +25,32 @@ pub struct Fold {
 }
 
 impl Fold {
+    /// A store without files, of that geometry, with that number and that next generation.
+    pub fn empty(alloc: Global, geometry: u32, number: u64, next: u64) -> Result<Fold, AllocError>
+        requires known { geometry ≤ 1 }
+        requires number { number ≤ last_number }
+        requires first { 1 ≤ next }
+        requires next { next ≤ last_generation }
+        ensures fold { IfOk result IsFold }
+        ensures geometry { IfOk result (λ f. f.geometry ≡ geometry) }
+        ensures said { IfOk result (λ f. fold_said f ≡ record { number = number; next = next; files = [] }) }
+    {
+        Ok(Fold {
+            geometry,
+            store: FoldedStore {
+                number,
+                next,
+                files: BTreeMap::new(alloc),
+                names: HashMap::new(alloc),
+            },
+            uses: Uses {
+                flags: vec![in alloc; false; geometry_of(geometry).blocks as usize]?,
+                attributes: 0,
+                stubs: 0,
+            },
+        })
+    }
+
     /// Takes batches one after the other, and tells the place of the first that isn't valid where it stands. At an `Err` nothing is said of the store.
     pub fn take_all(&mut self, alloc: Global, batches: &[Batch]) -> Result<Option<u64>, AllocError>
         requires { IsFold self.old }

@@ -10,6 +10,7 @@ mod stores;
 mod uses;
 
 pub use files::FoldedFile;
+pub use fold::Fold;
 pub use laws::{
     image_without_batches, lawful_fold, one_fold, one_meaning, one_more_batch, one_store,
 };
