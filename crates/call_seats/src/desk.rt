@@ -165,7 +165,10 @@ impl Desk {
         ensures told { whole.right ≡ true → IsOf whole.seen pass }
     {
         let (whole, pass) = self.meet(whole, pass);
-        let Pass { number: _, seat: ended } = self.look(pass);
+        let Pass {
+            number: _,
+            seat: ended,
+        } = self.look(pass);
         let Pass { number, mut seat } = whole;
         steps::join(&self.table, &mut seat, ended);
         Pass { number, seat }

@@ -46,13 +46,7 @@ pub enum Step {
 
 impl<D: Disk, N: Named<D>> Shared<D, N> {
     /// Shares a store that has done nothing since its opening, with a desk at which nothing was published. The passes up to the number of callers are theirs.
-    pub fn open(
-        hsm: Hsm<D>,
-        desk: Desk,
-        pen: Pen,
-        _passes: &Passes,
-        callers: u32,
-    ) -> Shared<D, N>
+    pub fn open(hsm: Hsm<D>, desk: Desk, pen: Pen, _passes: &Passes, callers: u32) -> Shared<D, N>
         requires named { N.opened ≡ Some hsm.opened }
         requires table { desk.table ≡ N.table }
         requires empty { hsm.history ≡ [] }

@@ -145,6 +145,12 @@ fn run(rt: &(impl Threads + Wait + Sync), alloc: Global) -> Option<Outcome> {
 #[test]
 fn a_caller_who_was_told_of_a_write_reads_it(rt: HostRuntime) -> Result<(), Fail> {
     let outcome = run(&rt, rt.alloc()).ok_or("memory was wanting")?;
-    assert!(rt; outcome == Outcome { is_done: true, is_read: true });
+    assert!(rt;
+        outcome
+            == Outcome {
+                is_done: true,
+                is_read: true
+            }
+    );
     Ok(())
 }
