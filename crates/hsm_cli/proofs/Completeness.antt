@@ -1,5 +1,5 @@
 -- A run in which nothing fails ends well, or for want of memory.
-use Rattle.std.proofs.Common.{ℕ, ◌≡◌, ◌≢◌, ◌⊎◌, inl, inr, ⊎_elim, List, [], Option, Some, None, IfSome, IsSome, refl, sym, ◌∙◌, subst}
+use Rattle.std.proofs.Common.{ℕ, ◌≡◌, ◌≢◌, ◌⊎◌, inl, inr, ⊎_elim, List, [], Option, Some, None, IfSome, IsSome, refl, ◌∙◌, subst}
 use Rattle.command_words.specs.Commands.{Replay, ReplayStore}
 use Rattle.disk_model.specs.declared.device.Disk as disk
 use Rattle.disk_model.specs.Calls.{Rose}

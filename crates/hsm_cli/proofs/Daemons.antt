@@ -1,14 +1,15 @@
 -- A served run is well served.
-use Rattle.std.proofs.Common.{◌≡◌, ◌∙◌, ◌++◌, ◌∷◌, [], ℕ, List, Some, refl, sym, ap, subst}
+use Rattle.std.proofs.Common.{◌≡◌, ◌∙◌, ◌++◌, ◌∷◌, [], ℕ, List, Some, None, refl, sym, ap, subst}
 use Rattle.std.proofs.lemmas.List.{map-append}
 use Rattle.disk_model.specs.declared.device.Disk as disk
 use Rattle.disk_model.specs.Moments.{Tells}
 use Rattle.hsm_types.specs.declared.daemons.Daemon.{Daemon}
+use Rattle.hsm_types.specs.declared.daemons.Daemon.TheVariants.{Recall, Migrate}
 use Rattle.hsm_types.specs.declared.keys.Sid.{Sid}
 use Rattle.hsm_types.specs.declared.stores.Superblock.{Superblock}
 use Rattle.hsm_types.specs.declared.tables.Table.{Table}
 use Rattle.plain_model.specs.declared.entries.Entry.{Entry}
-use Rattle.plain_model.specs.State.{Held, just_opened}
+use Rattle.plain_model.specs.State.{State, Held, just_opened}
 use Rattle.plain_model.specs.Laws.{IsRunSeen}
 use Rattle.plain_model.proofs.AnyDisk.{run_on_any}
 use Rattle.plain_model.proofs.Histories.{ExactSeen-first}
@@ -27,11 +28,13 @@ use Rattle.marked_history.specs.Marks.{Mark}
 use Rattle.marked_history.specs.Marks as marking
 use Rattle.marked_history.specs.Served.{Shown, nothing_shown, learned, ServedFrom, Served}
 use Rattle.marked_history.specs.Freeing.{PunchFrees}
-use Rattle.marked_history.specs.Tokens.{ServedKeepsAll}
+use Rattle.marked_history.specs.Tokens.{KeepsAll, ServedKeepsAll}
 use Rattle.marked_history.proofs.Lists.{none_there, both_none}
 use Rattle.hsm_system.specs.Events.{HasGrown}
 use Rattle.hsm_system.specs.Lives.{recalls, migrates}
-use Rattle.hsm_cli.specs.Daemons.{IsWellServed, IsWellServedOver, ServedIsWell, KeepsThroughout, KeepsThroughoutOver, ServedKeepsThroughout}
+use Rattle.hsm_replay.specs.Marking.{marks_of}
+use Rattle.hsm_replay.proofs.Marking.{marks_tell}
+use Rattle.hsm_cli.specs.Daemons.{IsWellServed, IsWellServedOver, ServedIsWell, KeepsThroughout}
 
 -- nothing was done
 
@@ -54,6 +57,17 @@ none_passed limits = record {
   gone = λ before rest sid table is on. absurd (no_pass before rest sid table is on);
 }
 
+-- no daemon has a session
+unseated : {A : Type 0} (a : A) → None ≡ Some a → ⊥
+unseated a is = cc
+
+keeps_none : (daemon : Daemon) (s : Superblock) (st : State) → KeepsAll daemon standard s st []
+keeps_none Recall s st sid m seated there own = absurd (unseated sid seated.session)
+keeps_none Migrate s st sid m seated there own = absurd (unseated sid seated.session)
+
+none_kept : (s : Superblock) (base : ℕ) (h : Held) → KeepsThroughout s base h []
+none_kept s base h daemon first rest parted = subst (λ (marks : List Mark). KeepsAll daemon standard s (just_opened base h) marks) (sym (both_none first rest parted).0) (keeps_none daemon s (just_opened base h))
+
 pub none_well : (s : Superblock) (base : ℕ) (h : Held) → IsWellServed s base h []
 none_well s base h = record {
   anew = λ before daemon sid info rest is. absurd (none_there before _ rest is);
@@ -61,29 +75,8 @@ none_well s base h = record {
   begins = none_begins standard;
   passes = none_passed standard;
   frees = λ before sid t handle offset len rest is. absurd (none_there before _ rest is);
+  keeps = none_kept s base h;
 }
-
--- ---- by deeds
-
--- the laws over deeds that are served
-pub record Laws : Type 0 where
-  pub anew : (limits : Numbers) (s : Superblock) (base : ℕ) (h : Held) (deeds : List Deed) → ServedMakesAnew limits s base h deeds
-  pub over : (limits : Numbers) (deeds : List Deed) → ServedTakesOver limits deeds
-  pub begins : (limits : Numbers) (deeds : List Deed) → ServedBeginsRight limits deeds
-  pub passes : (limits : Numbers) (deeds : List Deed) → ServedPasses limits deeds
-  pub frees : (s : Superblock) (base : ℕ) (h : Held) (es : List Entry) → PunchFrees s base h es
-
-well_served : Laws → (s : Superblock) (base : ℕ) (h : Held) (history : List Entry) → IsRunSeen ⊥ s base h history → (deeds : List Deed) → entries_of deeds ≡ history → leading.Served recalls (migrates standard) deeds → IsWellServed s base h deeds
-well_served laws s base h history run deeds same served =
-    let is_run : IsRunSeen ⊥ s base h (entries_of deeds) = subst (λ (es : List Entry). IsRunSeen ⊥ s base h es) (sym same) run in
-    record { anew = laws.anew standard s base h deeds served is_run; over = laws.over standard deeds served; begins = laws.begins standard deeds served; passes = laws.passes standard deeds served; frees = laws.frees s base h (entries_of deeds) is_run }
-
--- on a store that was just opened
-pub run_is_well : {D : Type 0} → Laws → (g : disk.Ghosts D) (old new : HsmStore D) → HasGrown g old new → IsKept g new → ServedIsWell (Some old.opened) new.history
-run_is_well {D = D} laws g old new goes kept deeds same served =
-    subst (λ (o : Store D). IsWellServedOver (Some o) deeds) goes.opened
-    (well_served laws (superblock_of new.opened) new.opened.meta.number new.opened.held new.history
-    (run_on_any (Tells g new.files.disk) (superblock_of new.opened) new.opened.meta.number new.opened.held new.history kept.run) deeds same served)
 
 -- ---- by marks
 
@@ -108,8 +101,33 @@ module _ (law : Keeping) (s : Superblock) (base : ℕ) (h : Held) where
       (run_first (marking.entries_of first) (marking.entries_of rest) (subst (λ (es : List Entry). IsRunSeen ⊥ s base h es) both run))
       (packed_first s (just_opened base h) (marking.entries_of first) (marking.entries_of rest) (subst (λ (es : List Entry). ArePacked s (just_opened base h) es) both packed))
 
-pub run_keeps : {D : Type 0} → Keeping → (g : disk.Ghosts D) (old new : HsmStore D) → HasGrown g old new → IsKept g new → ServedKeepsThroughout (Some old.opened) new.history
-run_keeps {D = D} law g old new goes kept marks same served =
-    subst (λ (o : Store D). KeepsThroughoutOver (Some o) marks) goes.opened
-    (keeps_throughout law (superblock_of new.opened) new.opened.meta.number new.opened.held new.history
-    (run_on_any (Tells g new.files.disk) (superblock_of new.opened) new.opened.meta.number new.opened.held new.history kept.run) kept.packed marks same served)
+-- ---- by deeds
+
+-- the laws over deeds that are served
+pub record Laws : Type 0 where
+  pub anew : (limits : Numbers) (s : Superblock) (base : ℕ) (h : Held) (deeds : List Deed) → ServedMakesAnew limits s base h deeds
+  pub over : (limits : Numbers) (deeds : List Deed) → ServedTakesOver limits deeds
+  pub begins : (limits : Numbers) (deeds : List Deed) → ServedBeginsRight limits deeds
+  pub passes : (limits : Numbers) (deeds : List Deed) → ServedPasses limits deeds
+  pub frees : (s : Superblock) (base : ℕ) (h : Held) (es : List Entry) → PunchFrees s base h es
+  pub keeps : Keeping
+
+well_served : Laws → (s : Superblock) (base : ℕ) (h : Held) (history : List Entry) → IsRunSeen ⊥ s base h history → ArePacked s (just_opened base h) history
+    → (deeds : List Deed) → entries_of deeds ≡ history → leading.Served recalls (migrates standard) deeds → Served standard (marks_of deeds) → IsWellServed s base h deeds
+well_served laws s base h history run packed deeds same served marked =
+    let is_run : IsRunSeen ⊥ s base h (entries_of deeds) = subst (λ (es : List Entry). IsRunSeen ⊥ s base h es) (sym same) run in
+    record {
+      anew = laws.anew standard s base h deeds served is_run;
+      over = laws.over standard deeds served;
+      begins = laws.begins standard deeds served;
+      passes = laws.passes standard deeds served;
+      frees = laws.frees s base h (entries_of deeds) is_run;
+      keeps = keeps_throughout laws.keeps s base h history run packed (marks_of deeds) (marks_tell deeds ∙ same) marked;
+    }
+
+-- on a store that was just opened
+pub run_is_well : {D : Type 0} → Laws → (g : disk.Ghosts D) (old new : HsmStore D) → HasGrown g old new → IsKept g new → ServedIsWell (Some old.opened) new.history
+run_is_well {D = D} laws g old new goes kept deeds same served marked =
+    subst (λ (o : Store D). IsWellServedOver (Some o) deeds) goes.opened
+    (well_served laws (superblock_of new.opened) new.opened.meta.number new.opened.held new.history
+    (run_on_any (Tells g new.files.disk) (superblock_of new.opened) new.opened.meta.number new.opened.held new.history kept.run) kept.packed deeds same served marked)

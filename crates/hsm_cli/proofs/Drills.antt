@@ -1,42 +1,30 @@
 -- A drill on a new store.
-use Rattle.std.proofs.Common.{◌≡◌, ◌≢◌, ◌⊎◌, inl, inr, ℕ, true, false, List, [], Option, Some, None, Result, Ok, Err, OnOk, IfErr, IfSome, IsOk}
+use Rattle.std.proofs.Common.{◌≡◌, ◌≢◌, ◌⊎◌, inl, inr, ℕ, false, List, [], Option, Some, None, Result, Ok, Err, IfErr, IfSome}
 use Rattle.std.proofs.Common.{refl, sym, ◌∙◌, ap, subst}
 use Rattle.disk_model.specs.declared.device.Disk as disk
 use Rattle.disk_model.specs.Calls.{Rose}
 use Rattle.media_model.specs.declared.drive.Drive as drive
-use Rattle.media_model.specs.Objects.{Objects}
-use Rattle.hsm_policy.specs.Settings.{Numbers}
 use Rattle.hsm_types.specs.declared.stores.Superblock.{Superblock}
 use Rattle.plain_model.specs.declared.entries.Entry.{Entry}
 use Rattle.plain_model.specs.Exact.{held_by}
 use Rattle.plain_model.specs.State.{Held, nothing_held, used}
-use Rattle.script_text.specs.declared.lines.Line.{Line}
-use Rattle.drill_script.specs.Drill.{drill_lines}
 use Rattle.drill_script.specs.Summary.{summary_line}
 use Rattle.file_store.specs.Stores.{Store, superblock_of}
 use Rattle.hsm_core.specs.Kept.{IsKept}
 use Rattle.hsm_core.specs.Store.{Store as HsmStore}
 use Rattle.hsm_core.specs.Summaries.{offline_of}
-use Rattle.marked_history.specs.Marks.{Mark}
-use Rattle.hsm_replay.specs.Sealed.{Tallies, SealsAreWhole}
 use Rattle.hsm_cli.specs.declared.causes.Cause.{Cause}
 use Rattle.hsm_cli.specs.declared.causes.Cause.TheVariants.{ScriptRefused, WordsRefused, NotStore, Corrupt, ReadFault, WriteFault, DiskFault}
 use Rattle.hsm_cli.specs.declared.causes.Cause.TheVariants.{HostFault, NoMemory}
 use Rattle.hsm_cli.specs.declared.outcomes.Outcome.{Outcome}
 use Rattle.hsm_cli.specs.Statuses.{status_of, place_of}
 use Rattle.hsm_cli.specs.RunObjects.{SourceTold, SinkTold, HostTold}
-use Rattle.hsm_cli.specs.Daemons.{KeepsThroughoutOver, ServedKeepsThroughout}
-use Rattle.hsm_cli.specs.Follows.{RunsBy, FollowsFirst, IsRunOf, DrillsAll, DrillsFirst, SettlesOn}
-use Rattle.hsm_policy.specs.Settings.{standard}
-use Rattle.hsm_cli.specs.Sealing.{LosesNothing}
 use Rattle.hsm_cli.specs.Endings.{cause_in, WritingEnds, LinesEnd}
 use Rattle.hsm_cli.specs.Openings.{replay_store}
 use Rattle.hsm_cli.specs.Texts.{HasLeft, held_after, drill_text}
-use Rattle.hsm_cli.specs.Clauses.{HasDrilled, Why, CanEnd, StatusClause}
+use Rattle.hsm_cli.specs.Clauses.{Why, CanEnd, StatusClause}
 use Rattle.command_words.specs.Commands.{Drill}
-use Rattle.hsm_cli.proofs.ByCause.{written_by, if_told}
-use Rattle.hsm_cli.proofs.Scripted.{run_says}
-use Rattle.hsm_cli.proofs.Sealing.{right_of}
+use Rattle.hsm_cli.proofs.ByCause.{written_by}
 
 -- ---- how it ended
 
@@ -76,46 +64,6 @@ left_new s history blocks segments superblock held number left =
 pub tells_left : (number : ℕ) (history : List Entry) (blocks segments : ℕ) (text : List ℕ) → HasLeft (held_after history) blocks segments → text ≡ summary_line number history blocks segments → text ≡ drill_text number history
 tells_left number history blocks segments text left is =
     is ∙ ap (λ (n : ℕ). summary_line number history n segments) left.are_used ∙ ap (λ (n : ℕ). summary_line number history (used (held_after history).files) n) left.are_offline
-
--- ---- its history
-
-module _ (Settles : List Line → List Mark → Type 0) (Tells : List Mark → Type 0) (number : ℕ) (history : List Entry) where
-  -- where all lines were run
-  all_run : {T : Type 0} (ended : Result T Cause) → OnOk ended (DrillsAll Settles Tells number history) → IsOk ended → DrillsAll Settles Tells number history
-  all_run (Ok x) all ok = all
-  all_run (Err why) all ok = absurd cc
-
-  not_none : {A : Type 0} → (None ≡ Some NoMemory) ⊎ A → A
-  not_none (inl is) = absurd cc
-  not_none (inr a) = a
-
-  not_fault : {A : Type 0} → (Some WriteFault ≡ Some NoMemory) ⊎ A → A
-  not_fault (inl is) = absurd cc
-  not_fault (inr a) = a
-
-  -- by how running and writing ended
-  pub has_drilled : {T U : Type 0} (sink : SinkTold) (ended : Result T Cause) (told : Result U Cause) → OnOk ended (DrillsAll Settles Tells number history) → DrillsFirst Settles Tells number history → IfErr told (WritingEnds sink)
-      → (cause_in told ≡ Some NoMemory) ⊎ IsOk ended → HasDrilled Settles Tells number (cause_in told) history
-  has_drilled sink ended told all first ends ran =
-      written_by (λ c. (c ≡ Some NoMemory) ⊎ IsOk ended → HasDrilled Settles Tells number c history) sink (cause_in told) (λ ran. all_run ended all (not_none ran)) (λ rose ran. all_run ended all (not_fault ran)) (λ ran. inr first) (if_told (WritingEnds sink) told ends) ran
-
--- what a run of lines says is so of the drill that has these
-module _ {D M : Type 0} (g : drive.Ghosts M) (opened : Store D) (given left : List M) (whole : (opened drives : List M) (limits : Numbers) (marks : List Mark) → Tallies g opened drives limits marks → SealsAreWhole g marks) (sure : g.sure ≡ true)
-    (law : (d : M) (v : ℕ) → g.has d v ≡ true → (o : Objects) × g.gives d v o) (number : ℕ) (lines : List Line) (history : List Entry) (is : lines ≡ drill_lines number) (well : ServedKeepsThroughout (Some opened) history) where
-  abbrev Right : List Mark → Type 0
-  Right marks = KeepsThroughoutOver (Some opened) marks × LosesNothing marks
-
-  says : (FollowsSo : List Line → List Mark → Type 0) → IsRunOf (FollowsSo lines) (Tallies g given left standard) history → IsRunOf (FollowsSo (drill_lines number)) Right history
-  says FollowsSo run =
-      subst (λ (ls : List Line). IsRunOf (FollowsSo ls) Right history) is
-      (run_says (SettlesOn (Some opened)) (Tallies g given left standard) Right history (λ marks entries served tells. (well marks entries served, right_of g given left whole sure law marks tells)) (FollowsSo lines) run)
-
-  pub drills_all : {T : Type 0} (ended : Result T Cause) → OnOk ended (IsRunOf (RunsBy (SettlesOn (Some opened)) lines) (Tallies g given left standard) history) → OnOk ended (DrillsAll (SettlesOn (Some opened)) Right number history)
-  drills_all (Ok x) run = says (RunsBy (SettlesOn (Some opened))) run
-  drills_all (Err why) run = tt
-
-  pub drills_first : IsRunOf (FollowsFirst (SettlesOn (Some opened)) lines) (Tallies g given left standard) history → DrillsFirst (SettlesOn (Some opened)) Right number history
-  drills_first run = says (FollowsFirst (SettlesOn (Some opened))) run
 
 -- ---- when each status comes
 

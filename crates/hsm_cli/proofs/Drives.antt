@@ -7,13 +7,10 @@ use Rattle.media_model.specs.declared.drive.Drive as drive
 use Rattle.media_model.specs.Objects.{Objects, Alike}
 use Rattle.hsm_policy.specs.Settings.{standard}
 use Rattle.hsm_replay.specs.Drives.{HaveGrown}
-use Rattle.marked_history.specs.Marks.{Mark}
-use Rattle.hsm_replay.specs.Sealed.{Tallies}
 use Rattle.hsm_cli.specs.declared.causes.Cause.{Cause}
 use Rattle.hsm_cli.specs.declared.causes.Cause.TheVariants.{ScriptRefused, WordsRefused, NotStore, Corrupt, ReadFault, WriteFault, DiskFault}
 use Rattle.hsm_cli.specs.declared.causes.Cause.TheVariants.{HostFault, NoMemory}
 use Rattle.hosts.specs.Hosts.{AreHanded, HoldsNothing, HoldsOthers, HoldsAll, StoresAll}
-use Rattle.hsm_cli.specs.Sealing.{TalliesSince}
 use Rattle.hsm_cli.specs.RunObjects.{SourceTold, SinkTold, HostTold}
 use Rattle.hsm_cli.specs.Endings.{RunEnds, HandingEnds, IsBeforeReading}
 use Rattle.hsm_cli.specs.Clauses.{Why, HasFailed, GivesBack, HandsOut, HandsDrives}
@@ -28,11 +25,6 @@ module _ {M : Type 0} (g : drive.Ghosts M) (old mid : ℕ → Objects → Type 0
 module _ {S M : Type 0} (g : drive.Ghosts M) (old mid : ℕ → Objects → Type 0) (same : (v : ℕ) → Alike (old v) (mid v)) (opened : S) where
   handed_from : (given : List M) → AreHanded g mid standard.drives standard.volumes standard.capacity given → AreHanded g old standard.drives standard.volumes standard.capacity given
   handed_from given h = handed_since g old mid same standard.drives standard.volumes standard.capacity given h
-
-  -- what marks tell with the drives that came
-  pub tallies_since : {V : Type 0} (items : V → List M) (ready : Result V Cause) (left : List M) → IfOk ready (λ ds. AreHanded g mid standard.drives standard.volumes standard.capacity (items ds)) → IfOk ready (λ ds. (marks : List Mark) → Tallies g (items ds) left standard marks → TalliesSince g old left marks)
-  tallies_since items (Ok ds) left handed = λ marks tallies. (items ds, handed_from (items ds) handed, tallies)
-  tallies_since items (Err why) left handed = tt
 
   came : (cause : Option Cause) (handed given : List M) → AreHanded g mid standard.drives standard.volumes standard.capacity handed → HaveGrown g handed given → (cause ≡ Some HostFault → ⊥) → GivesBack g old (Some opened) cause given
   came None handed given h grown works = (handed, handed_from handed h, grown)

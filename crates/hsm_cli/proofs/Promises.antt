@@ -18,15 +18,12 @@ use Rattle.hsm_cli.specs.declared.outcomes.Outcome.{Outcome}
 use Rattle.hsm_cli.specs.Statuses.{status_of, place_of}
 use Rattle.hsm_cli.specs.Openings.{opened_in, superblock_at, held_at, base_of}
 use Rattle.hsm_cli.specs.Outcomes.{ended_with}
-use Rattle.hsm_cli.specs.Daemons.{KeepsThroughoutOver}
 use Rattle.hsm_cli.specs.Deeds.{DeedsClause}
-use Rattle.hsm_cli.specs.Follows.{SettlesOn}
 use Rattle.hosts.specs.Hosts.{StoresAll}
-use Rattle.hsm_cli.specs.Sealing.{LosesNothing, TalliesSince}
 use Rattle.hsm_cli.specs.Texts.{IsUnwritten, TakesText, IsShown, AreUntold, AreCounted, drill_text}
 use Rattle.hsm_cli.specs.RunObjects.{SourceTold, SinkTold, FailsOnce, host_told}
 use Rattle.hsm_cli.specs.Endings.{WritingEnds, RunEnds, FormatEnds, ShowEnds}
-use Rattle.hsm_cli.specs.Clauses.{HasRun, HasDrilled, HasRead, HasReadOn, IsUnread, TellsGiven, IsRunOver, IsGoodSeenOver, IsOrderlyOver, IsPackedOver, IsGoodOver, IsPlainOver}
+use Rattle.hsm_cli.specs.Clauses.{HasRead, HasReadOn, IsUnread, TellsGiven, IsRunOver, IsGoodSeenOver, IsOrderlyOver, IsPackedOver, IsGoodOver, IsPlainOver}
 use Rattle.hsm_cli.specs.Clauses.{IsCausedOver, NoneFailed, TellsFaults}
 use Rattle.hsm_cli.specs.Clauses.{LegalityClause, PlainClause, MediaClause, LeavesSafe, OnlyReads, IsFormatted, HandsOut, HasFailed, HasDriveFailed}
 use Rattle.hsm_cli.specs.Clauses.{GivesBack, HandsDrives, GivesShown, AsksShown, asked_by, FindsNothing, TakesTranscript, Why, HasBegun, Lacks}
@@ -77,8 +74,7 @@ module _ {H D M : Type 0} (t : host.Ghosts H D M) (g : disk.Ghosts D) (h : drive
       → FormatEnds (HasFailed g o.disk) (host_told t.fault_count old new) o.cause
       → IsUnread source → IsUnwritten sink → KeepsPromises t g h (Some (Format path size)) old new source sink o
   format_keeps path size is formatted hands made unasked undriven folders lent back quiet host_once sound ends unread unwritten = record {
-    script = idle [] is;
-    deeds = tt;
+    deeds = idle [] is;
     reading = unread;
     legality = idle_legal [] is;
     plain = idle_plain [] is;
@@ -109,8 +105,7 @@ module _ {H D M : Type 0} (t : host.Ghosts H D M) (g : disk.Ghosts D) (h : drive
       → ShowEnds (t.holds old path) (Rose (t.fault_count old) (t.fault_count new)) (HasFailed g o.disk) sink o.cause
       → IsUnread source → KeepsPromises t g h (Some (Show path)) old new source sink o
   show_keeps path is reads hands asked unmade undriven folders lent back output quiet host_once sink_once ends unread = record {
-    script = idle [] is;
-    deeds = tt;
+    deeds = idle [] is;
     reading = unread;
     legality = idle_legal [] is;
     plain = idle_plain [] is;
@@ -145,8 +140,7 @@ module _ {H D M : Type 0} (t : host.Ghosts H D M) (g : disk.Ghosts D) (h : drive
       → ShowEnds (t.holds old path) (Rose (t.fault_count old) (t.fault_count new) ⊎ HasDriveFailed h o.drives) (HasFailed g o.disk) sink o.cause
       → IsUnread source → KeepsPromises t g h (Some (ShowVolumes path dir)) old new source sink o
   volumes_keep path dir is reads hands asked unmade drives folders driven lent back unasked first output quiet host_once sink_once well ends unread = record {
-    script = idle o.drives is;
-    deeds = tt;
+    deeds = idle o.drives is;
     reading = unread;
     legality = idle_legal o.drives is;
     plain = idle_plain o.drives is;
@@ -195,7 +189,6 @@ module _ {H D M : Type 0} (t : host.Ghosts H D M) (g : disk.Ghosts D) (h : drive
     new_caused = subst (λ (s : Option (Store D)). IsCausedOver s o.history) (sym not_opened) caused
 
     pub replay_keeps : ((bytes : List ℕ) (lines : List Line) → IsScript bytes lines → IsOneScript bytes lines)
-        → HasRun (SettlesOn (opened_in o)) (λ marks. KeepsThroughoutOver (opened_in o) marks × LosesNothing marks) false source o.cause o.history
         → DeedsClause h (t.stores old) (Some Replay) source o
         → HasRead source o.cause
         → TakesTranscript o sink
@@ -205,8 +198,7 @@ module _ {H D M : Type 0} (t : host.Ghosts H D M) (g : disk.Ghosts D) (h : drive
         → FailsOnce sink.before sink.now
         → RunEnds ⊥ ⊥ source sink o.cause
         → KeepsPromises t g h (Some Replay) old old source sink o
-    replay_keeps law script deeds reading output reads writes source_once sink_once ends = record {
-      script = script;
+    replay_keeps law deeds reading output reads writes source_once sink_once ends = record {
       deeds = deeds;
       reading = reading;
       legality = new_legal;
@@ -222,14 +214,12 @@ module _ {H D M : Type 0} (t : host.Ghosts H D M) (g : disk.Ghosts D) (h : drive
     }
 
     pub drill_keeps : (number : ℕ)
-        → HasDrilled (SettlesOn (opened_in o)) (λ marks. KeepsThroughoutOver (opened_in o) marks × LosesNothing marks) number o.cause o.history
         → DeedsClause h (t.stores old) (Some (Drill number)) source o
         → TakesText (λ text. text ≡ drill_text number o.history) sink o.cause
         → IfSome o.cause (WritingEnds sink)
         → FailsOnce sink.before sink.now
         → IsUnread source → KeepsPromises t g h (Some (Drill number)) old old source sink o
-    drill_keeps number script deeds output ends sink_once unread = record {
-      script = script;
+    drill_keeps number deeds output ends sink_once unread = record {
       deeds = deeds;
       reading = unread;
       legality = new_legal;
@@ -249,7 +239,6 @@ module _ {H D M : Type 0} (t : host.Ghosts H D M) (g : disk.Ghosts D) (h : drive
   pub store_keeps : (path dir : List ℕ) → ((bytes : List ℕ) (lines : List Line) → IsScript bytes lines → IsOneScript bytes lines)
       → (o.status ≡ status_of o.cause) × (o.at ≡ place_of o.cause) × (o.base ≡ base_of (opened_in o))
       → o.cause ≢ Some WordsRefused
-      → HasRun (SettlesOn (opened_in o)) (λ marks. KeepsThroughoutOver (opened_in o) marks × TalliesSince h (t.stores old dir) o.drives marks) true source o.cause o.history
       → DeedsClause h (t.stores old) (Some (ReplayStore path dir)) source o
       → HasReadOn (opened_in o) source o.cause
       → LegalityClause g o
@@ -277,8 +266,7 @@ module _ {H D M : Type 0} (t : host.Ghosts H D M) (g : disk.Ghosts D) (h : drive
       → FailsOnce (t.fault_count old) (t.fault_count new)
       → Why g (t.holds old path) (Rose (t.fault_count old) (t.fault_count new)) source sink o.disk o.cause
       → KeepsPromises t g h (Some (ReplayStore path dir)) old new source sink o
-  store_keeps path dir law told command script deeds reading legality plain media caused crash output hands asked unmade lent drives folders driven begun opened back sound reads writes source_once sink_once quiet host_once why = record {
-    script = script;
+  store_keeps path dir law told command deeds reading legality plain media caused crash output hands asked unmade lent drives folders driven begun opened back sound reads writes source_once sink_once quiet host_once why = record {
     deeds = deeds;
     reading = reading;
     legality = legality;

@@ -14,6 +14,7 @@ use Rattle.reconcile.specs.Classes.{AreQuiet, raised_at, FailsAt, TellsFailed}
 use Rattle.reconcile.specs.declared.refusals.ReconcileRefusal.{ReconcileRefusal}
 use Rattle.reconcile.specs.declared.refusals.ReconcileRefusal.TheVariants as counting
 use Rattle.script_text.specs.declared.lines.Line.{Line}
+use Rattle.deeds.specs.Deeds.{Deed}
 use Rattle.hsm_cli.specs.declared.causes.Cause.{Cause}
 use Rattle.hsm_cli.specs.declared.causes.Cause.TheVariants.{ScriptRefused, WordsRefused, NotStore, Corrupt, ReadFault, WriteFault, DiskFault}
 use Rattle.hsm_cli.specs.declared.causes.Cause.TheVariants.{HostFault, NoMemory}
@@ -25,7 +26,10 @@ use Rattle.hsm_cli.specs.Statuses.{cause_of_host, cause_of_classes}
 use Rattle.hsm_cli.specs.Texts.{TakesText}
 use Rattle.hsm_cli.specs.RunObjects.{SourceTold, SinkTold, HostTold, FailsOnce}
 use Rattle.hsm_cli.specs.Endings.{cause_in, WritingEnds, first_of}
-use Rattle.hsm_cli.specs.Clauses.{HasRun, ComesBackRead, ReadsQuietly, WritesQuietly, NeverFailed, HasDriveFailed, CountsQuietly, FaultsClause}
+use Rattle.hsm_cli.specs.Deeds.{AreDone, HasDone}
+use Rattle.hsm_cli.proofs.Doing.{idle_history}
+use Rattle.hsm_policy.specs.Settings.{standard}
+use Rattle.hsm_cli.specs.Clauses.{ComesBackRead, ReadsQuietly, WritesQuietly, NeverFailed, HasDriveFailed, CountsQuietly, FaultsClause}
 
 -- ---- what a run reads and writes
 
@@ -44,32 +48,24 @@ pub works_still : (failed faulty : Bool) (ran : Result (Unit {0}) Cause) → (fa
 works_still true faulty ran fails tells none = absurd (false≢true (sym none ∙ tells (fails refl)))
 works_still false faulty ran fails tells none = refl
 
-module _ (Settles : List Line → List Mark → Type 0) (Tells : List Mark → Type 0) (commits : Bool) (source : SourceTold) (history : List Entry) where
-  -- nothing was run
-  unrun : (why : Cause) → HasRun Settles Tells commits source (Some why) history → why ≢ WriteFault → why ≢ DiskFault → why ≢ NoMemory → history ≡ []
-  unrun WriteFault run sound working ample = absurd (sound refl)
-  unrun DiskFault run sound working ample = absurd (working refl)
-  unrun NoMemory run sound working ample = absurd (ample refl)
-  unrun (ScriptRefused line) run sound working ample = run
-  unrun WordsRefused run sound working ample = run
-  unrun NotStore run sound working ample = run
-  unrun (Corrupt place) run sound working ample = run
-  unrun ReadFault run sound working ample = run
-  unrun HostFault run sound working ample = run
+-- A run whose deeds made that history.
+module _ (MayGo : List Entry → ℕ → Type 0) (Settles : List Line → List Mark → Type 0) (AreTheLines : List Line → Type 0) (GoSo : List Deed → Type 0) (history : List Entry) where
+  abbrev Ran : Option Cause → Type 0
+  Ran cause = HasDone standard (AreDone MayGo Settles AreTheLines cause) GoSo history
 
   -- a fault of the source ends the run before its first line, and the transcript is empty
-  pub reads_quietly : (ran written : Result (Unit {0}) Cause) → HasRun Settles Tells commits source (cause_in ran) history → (history ≡ [] → IsOk written) → ((IsErrOf ran ReadFault → ⊥) → source.now ≡ source.before) → ReadsQuietly source (first_of (cause_in ran) (cause_in written))
-  reads_quietly ran written runs wrote quiet = λ sound. quiet (λ is.
+  pub reads_quietly : (source : SourceTold) (ran written : Result (Unit {0}) Cause) → Ran (cause_in ran) → (history ≡ [] → IsOk written) → ((IsErrOf ran ReadFault → ⊥) → source.now ≡ source.before) → ReadsQuietly source (first_of (cause_in ran) (cause_in written))
+  reads_quietly source ran written runs wrote quiet = λ sound. quiet (λ is.
       let told : cause_in ran ≡ Some ReadFault = ap cause_in is in
-      sound (told_first ran written ReadFault told (wrote (subst (λ c. HasRun Settles Tells commits source c history) told runs))))
+      sound (told_first ran written ReadFault told (wrote (idle_history MayGo Settles AreTheLines ReadFault GoSo history (subst Ran told runs) (λ is. cc) (λ is. cc) (λ is. cc)))))
 
   -- the transcript of a run that ran nothing is empty
-  pub writes_quietly : (sink : SinkTold) (ran written : Result (Unit {0}) Cause) → IfErr written (WritingEnds sink) → HasRun Settles Tells commits source (cause_in ran) history → ((IsErrOf written WriteFault → ⊥) → sink.now ≡ sink.before) → (history ≡ [] → sink.now ≡ sink.before)
+  pub writes_quietly : (sink : SinkTold) (ran written : Result (Unit {0}) Cause) → IfErr written (WritingEnds sink) → Ran (cause_in ran) → ((IsErrOf written WriteFault → ⊥) → sink.now ≡ sink.before) → (history ≡ [] → sink.now ≡ sink.before)
       → WritesQuietly sink (first_of (cause_in ran) (cause_in written))
   writes_quietly sink ran (Ok y) writes runs quiet idle = λ sound working ample. quiet (λ is. absurd cc)
   writes_quietly sink ran (Err NoMemory) writes runs quiet idle = λ sound working ample. quiet (λ is. absurd cc)
   writes_quietly sink (Ok x) (Err WriteFault) writes runs quiet idle = λ sound working ample. absurd (sound refl)
-  writes_quietly sink (Err why) (Err WriteFault) writes runs quiet idle = λ sound working ample. idle (unrun why runs (λ is. sound (ap Some is)) (λ is. working (ap Some is)) (λ is. ample (ap Some is)))
+  writes_quietly sink (Err why) (Err WriteFault) writes runs quiet idle = λ sound working ample. idle (idle_history MayGo Settles AreTheLines why GoSo history runs (λ is. sound (ap Some is)) (λ is. working (ap Some is)) (λ is. ample (ap Some is)))
   writes_quietly sink ran (Err (ScriptRefused line)) writes runs quiet idle = absurd writes
   writes_quietly sink ran (Err WordsRefused) writes runs quiet idle = absurd writes
   writes_quietly sink ran (Err NotStore) writes runs quiet idle = absurd writes

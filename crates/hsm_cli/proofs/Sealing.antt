@@ -1,5 +1,5 @@
 -- What marks tell of what was sealed, over drives of a sure type.
-use Rattle.std.proofs.Common.{◌≡◌, ◌≢◌, ◌⊎◌, ◌++◌, ◌∷◌, [], ℕ, Bool, true, List, Option, Some, Result, Ok, Err, IfOk, IfErr, OnErr, sym, subst}
+use Rattle.std.proofs.Common.{◌≡◌, ◌≢◌, ◌⊎◌, ◌++◌, ◌∷◌, [], ℕ, true, List, subst}
 use Rattle.std.specs.List.{AllByRecursion}
 use Rattle.std.proofs.lemmas.List.Elements.{filter_map-append}
 use Rattle.media_model.specs.Objects.{Objects}
@@ -10,21 +10,13 @@ use Rattle.hsm_types.specs.declared.dm.DmCall.TheVariants.{Respond}
 use Rattle.hsm_types.specs.declared.dm.Response.TheVariants.{Abort}
 use Rattle.hsm_types.specs.declared.stubs.Place.{Place}
 use Rattle.hsm_types.specs.declared.stubs.StubEntry.{StubEntry}
-use Rattle.plain_model.specs.declared.entries.Entry.{Entry}
 use Rattle.hsm_policy.specs.Settings.{Numbers, standard}
 use Rattle.recall_daemon.specs.Known.{Known}
 use Rattle.marked_history.specs.Marks.{Mark, made}
 use Rattle.hsm_replay.specs.Sealed.{seal_by, sealed_in, IsUnnamed, Gives, IsThere, IsStored, IsLost, NeedsLost, Tallies, SealsAreWhole}
 use Rattle.marked_history.specs.Served.{shown, nothing_shown}
-use Rattle.hsm_cli.specs.declared.causes.Cause.{Cause}
-use Rattle.hsm_cli.specs.declared.causes.Cause.TheVariants.{NoMemory}
-use Rattle.script_text.specs.declared.lines.Line.{Line}
-use Rattle.hsm_cli.specs.Clauses.{HasRun}
-use Rattle.hsm_cli.specs.Endings.{IsBeforeReading}
 use Rattle.hsm_cli.specs.Sealing.{IsUnknown, NeedsUnknown, LosesNothing}
-use Rattle.hsm_cli.specs.RunObjects.{SourceTold}
 use Rattle.marked_history.proofs.Lists.{all_first}
-use Rattle.hsm_cli.proofs.Scripted.{ran_with}
 
 -- of the entries that are sealed, those of a beginning
 sealed_first : (P : StubEntry → Type 0) (marks first rest : List Mark) → marks ≡ first ++ rest → AllByRecursion P (sealed_in marks) → AllByRecursion P (sealed_in first)
@@ -66,19 +58,3 @@ module _ {M : Type 0} (g : drive.Ghosts M) (opened ds : List M) (law : (d : M) (
 pub right_of : {M : Type 0} (g : drive.Ghosts M) (opened left : List M) → ((opened drives : List M) (limits : Numbers) (marks : List Mark) → Tallies g opened drives limits marks → SealsAreWhole g marks) → g.sure ≡ true
     → ((d : M) (v : ℕ) → g.has d v ≡ true → (o : Objects) × g.gives d v o) → (marks : List Mark) → Tallies g opened left standard marks → LosesNothing marks
 right_of g opened left whole sure law marks tallies = loses_nothing g opened left law marks (whole opened left standard marks tallies) sure tallies
-
--- if any came
-right_with : {M V : Type 0} (g : drive.Ghosts M) (items : V → List M) (ready : Result V Cause) (left : List M) → ((opened drives : List M) (limits : Numbers) (marks : List Mark) → Tallies g opened drives limits marks → SealsAreWhole g marks) → g.sure ≡ true
-    → ((d : M) (v : ℕ) → g.has d v ≡ true → (o : Objects) × g.gives d v o) → IfOk ready (λ ds. (marks : List Mark) → Tallies g (items ds) left standard marks → LosesNothing marks)
-right_with g items (Ok ds) left whole sure law = right_of g (items ds) left whole sure law
-right_with g items (Err why) left whole sure law = tt
-
-wants_memory : {V : Type 0} (ready : Result V Cause) → IfErr ready (λ why. why ≡ NoMemory) → IfErr ready IsBeforeReading
-wants_memory (Ok ds) why = tt
-wants_memory (Err why) is = subst IsBeforeReading (sym is) tt
-
-pub right_run : {M V : Type 0} (Settles : List Line → List Mark → Type 0) (g : drive.Ghosts M) (items : V → List M) (left : List M) (ready : Result V Cause) (commits : Bool) (source : SourceTold) (cause : Option Cause) (history : List Entry)
-    → ((opened drives : List M) (limits : Numbers) (marks : List Mark) → Tallies g opened drives limits marks → SealsAreWhole g marks) → g.sure ≡ true → ((d : M) (v : ℕ) → g.has d v ≡ true → (o : Objects) × g.gives d v o)
-    → IfErr ready (λ why. why ≡ NoMemory) → IfErr ready (λ why. (cause ≡ Some why) ⊎ (cause ≡ Some NoMemory)) → OnErr ready (history ≡ []) → HasRun Settles (λ marks. IfOk ready (λ ds. Tallies g (items ds) left standard marks)) commits source cause history → HasRun Settles LosesNothing commits source cause history
-right_run Settles g items left ready commits source cause history whole sure law why unready idle ran =
-    ran_with Settles (λ ds marks. Tallies g (items ds) left standard marks) LosesNothing ready commits source cause history (right_with g items ready left whole sure law) (wants_memory ready why) unready idle ran

@@ -16,7 +16,7 @@ use Rattle.hsm_cli.specs.Sources.{GivesFirst}
 use Rattle.hosts.specs.Hosts.{HoldsAll, StoresAll}
 use Rattle.hsm_cli.specs.Texts.{IsUnwritten}
 use Rattle.hsm_cli.specs.RunObjects.{SourceTold, SinkTold, HostTold, host_told}
-use Rattle.hsm_cli.specs.Clauses.{ScriptClause, ReadingClause, MediaClause, TellsFaults, CrashClause, FormatClause, HostClause, DrivesClause}
+use Rattle.hsm_cli.specs.Clauses.{ReadingClause, MediaClause, TellsFaults, CrashClause, FormatClause, HostClause, DrivesClause}
 use Rattle.hsm_cli.specs.Clauses.{OutputClause, TakesTranscript, LegalityClause, PlainClause, StatusClause, KeepsPromises}
 use Rattle.hsm_cli.proofs.Deeds.{deeds_wanting}
 use Rattle.hsm_cli.proofs.Faults.{caused_none}
@@ -41,15 +41,6 @@ pub gives_none : (given : Option (List ℕ)) → GivesFirst given given
 gives_none given = record { bytes = []; consumed = Consumes-nil given; within = omega arith }
 
 module _ {D M : Type 0} (g : disk.Ghosts D) (h : drive.Ghosts M) where
-  script_wanting : (stores : List ℕ → ℕ → Objects → Type 0) (form : Option Form) (source : SourceTold) → ScriptClause h stores form source (wanting {D = D} {M = M})
-  script_wanting stores None source = refl
-  script_wanting stores (Some (Format path size)) source = refl
-  script_wanting stores (Some Replay) source = inl refl
-  script_wanting stores (Some (ReplayStore path dir)) source = inl refl
-  script_wanting stores (Some (Show path)) source = refl
-  script_wanting stores (Some (ShowVolumes path dir)) source = refl
-  script_wanting stores (Some (Drill number)) source = inl refl
-
   reading_wanting : (form : Option Form) (given : Option (List ℕ)) (faults : ℕ) → ReadingClause form (unread given faults) (wanting {D = D} {M = M})
   reading_wanting None given faults = record { left = refl; faults = refl }
   reading_wanting (Some (Format path size)) given faults = record { left = refl; faults = refl }
@@ -173,8 +164,7 @@ module _ {D M : Type 0} (g : disk.Ghosts D) (h : drive.Ghosts M) where
         let legal : LegalityClause g refused = legal_as g refused _ None refl in
         subst (λ (x : Outcome D M). KeepsPromises t g h None host host (unread given read) (untaken taken written) x) (sym is) (
         record {
-          script = refl;
-          deeds = tt;
+          deeds = refl;
           reading = record { left = refl; faults = refl };
           legality = legal;
           plain = plain_by refused legal;
@@ -194,7 +184,6 @@ module _ {D M : Type 0} (g : disk.Ghosts D) (h : drive.Ghosts M) where
         let legal : LegalityClause g wanting = legal_as g wanting _ None refl in
         subst (λ (x : Outcome D M). KeepsPromises t g h form host host (unread given read) (untaken taken written) x) (sym is) (
         record {
-          script = script_wanting (t.stores host) form _;
           deeds = deeds_wanting D h (t.stores host) form _;
           reading = reading_wanting form given read;
           legality = legal;

@@ -1,5 +1,5 @@
 -- What is promised of a run: each clause over the words, the outcome, and what the objects tell.
-use Rattle.std.specs.Prelude.{ℕ, ◌≡◌, ◌≢◌, ◌+◌, ◌⊎◌, List, [], ◌∷◌, take, sum_by, Bool, true, false, Option, Some, None, IfSome, IsSome}
+use Rattle.std.specs.Prelude.{ℕ, ◌≡◌, ◌≢◌, ◌+◌, ◌⊎◌, List, [], ◌∷◌, take, sum_by, true, false, Option, Some, None, IfSome, IsSome}
 use Rattle.std.specs.Io.KnownBytes.{Appends, IsAtEnd}
 use Rattle.std.specs.List.{AllByRecursion}
 use Rattle.disk_model.specs.declared.device.Disk as disk
@@ -30,7 +30,6 @@ use Rattle.hsm_core.specs.Packed.{ArePacked}
 use Rattle.marked_history.specs.Caused.{Caused}
 use Rattle.hsm_replay.specs.Drives.{HaveGrown}
 use Rattle.hsm_replay.specs.Faults.{faults_in, AreTrue}
-use Rattle.marked_history.specs.Marks.{Mark}
 use Rattle.reconcile.specs.Classes.{AreRead}
 use Rattle.script_text.specs.Scripts.{IsScript, IsFirstBad}
 use Rattle.script_text.specs.declared.lines.Line.{Line}
@@ -42,11 +41,8 @@ use Rattle.hsm_cli.specs.declared.outcomes.Outcome.{Outcome}
 use Rattle.hsm_cli.specs.Statuses.{status_of, place_of}
 use Rattle.hsm_cli.specs.Sources.{script_bytes, GivesFirst, GivesWhole}
 use Rattle.hsm_cli.specs.Openings.{opened_in, superblock_at, held_at, base_of}
-use Rattle.hsm_cli.specs.Daemons.{KeepsThroughoutOver}
 use Rattle.hsm_cli.specs.Deeds.{DeedsClause}
-use Rattle.hsm_cli.specs.Follows.{SettlesOn, RunsAll, RunsFirst, DrillsAll, DrillsFirst}
 use Rattle.hosts.specs.Hosts.{IsHanded, AreHanded, HoldsNothing, HoldsOthers, HoldsAll, StoresNothing, StoresOthers, StoresAll}
-use Rattle.hsm_cli.specs.Sealing.{LosesNothing, TalliesSince}
 use Rattle.hsm_cli.specs.Texts.{IsUnwritten, TakesText, IsShown, AreUntold, AreCounted, shown_drives, shown_volumes, drill_text}
 use Rattle.hsm_cli.specs.RunObjects.{SourceTold, SinkTold, HostTold, host_told, FailsOnce}
 
@@ -57,36 +53,6 @@ abbrev pub TellsGiven : {D : Type 0} → disk.Ghosts D → Option D → Type 0
 TellsGiven g None = Unit {0}
 TellsGiven g (Some disk) = Tells g disk
 
--- ---- the script clause
-
--- The history that a run of a script has, by what went wrong first, what its settles have come to, and what its marks tell beside. A run that ends well,
--- or fails only in writing, has read the script to its end and runs all lines; one that lacks memory, or whose disk fails, runs the first ones.
-abbrev pub HasRun : (List Line → List Mark → Type 0) → (List Mark → Type 0) → Bool → SourceTold → Option Cause → List Entry → Type 0
-HasRun Settles Says commits source None history = RunsAll Settles Says commits source.given history × IsAtEnd source.left
-HasRun Settles Says commits source (Some WriteFault) history = RunsAll Settles Says commits source.given history × IsAtEnd source.left
-HasRun Settles Says commits source (Some DiskFault) history = (history ≡ []) ⊎ RunsFirst Settles Says commits source.given history
-HasRun Settles Says commits source (Some NoMemory) history = (history ≡ []) ⊎ RunsFirst Settles Says commits source.given history
-HasRun Settles Says commits source (Some why) history = history ≡ []
-
--- The history of a drill: it has run all its lines where it ended well, or failed only in writing, and the first ones where memory was wanting.
-abbrev pub HasDrilled : (List Line → List Mark → Type 0) → (List Mark → Type 0) → ℕ → Option Cause → List Entry → Type 0
-HasDrilled Settles Says number None history = DrillsAll Settles Says number history
-HasDrilled Settles Says number (Some WriteFault) history = DrillsAll Settles Says number history
-HasDrilled Settles Says number (Some NoMemory) history = (history ≡ []) ⊎ DrillsFirst Settles Says number history
-HasDrilled Settles Says number (Some why) history = history ≡ []
-
--- Only the forms of `replay` run a script, and `drill` the one that it makes of its number. `replay PATH DIR` ends with a commit, and its marks tally with the
--- drives that come back; those of plain `replay` and of `drill`, whose drives in memory never fail, lose nothing that was sealed. In each of
--- them daemons keep the events that are theirs.
-abbrev pub ScriptClause : {D M : Type 0} → drive.Ghosts M → (List ℕ → ℕ → Objects → Type 0) → Option Form → SourceTold → Outcome D M → Type 0
-ScriptClause g stores None source o = o.history ≡ []
-ScriptClause g stores (Some (Format path size)) source o = o.history ≡ []
-ScriptClause g stores (Some Replay) source o = HasRun (SettlesOn (opened_in o)) (λ marks. KeepsThroughoutOver (opened_in o) marks × LosesNothing marks) false source o.cause o.history
-ScriptClause g stores (Some (ReplayStore path dir)) source o = HasRun (SettlesOn (opened_in o)) (λ marks. KeepsThroughoutOver (opened_in o) marks × TalliesSince g (stores dir) o.drives marks) true source o.cause o.history
-ScriptClause g stores (Some (Show path)) source o = o.history ≡ []
-ScriptClause g stores (Some (ShowVolumes path dir)) source o = o.history ≡ []
-ScriptClause g stores (Some (Drill number)) source o = HasDrilled (SettlesOn (opened_in o)) (λ marks. KeepsThroughoutOver (opened_in o) marks × LosesNothing marks) number o.cause o.history
-
 -- ---- the reading clause
 
 -- nothing was asked of the source
@@ -94,8 +60,11 @@ pub record IsUnread (source : SourceTold) : Type 0 where
   pub left : source.left ≡ source.given
   pub faults : source.now ≡ source.before
 
--- How much of the source a run on a store reads: nothing where the host failed, a part of it where reading failed or memory was wanting, else the whole.
+-- How much of the source a run on a store reads: nothing where the host failed, a part of it where reading failed or memory was wanting, else the whole. One
+-- that ends well, or fails only in writing, has read the script to its end.
 abbrev pub HasRead : SourceTold → Option Cause → Type 0
+HasRead source None = GivesWhole source.given source.left × IsAtEnd source.left
+HasRead source (Some WriteFault) = GivesWhole source.given source.left × IsAtEnd source.left
 HasRead source (Some HostFault) = IsUnread source
 HasRead source (Some ReadFault) = GivesFirst source.given source.left
 HasRead source (Some NoMemory) = GivesFirst source.given source.left
@@ -618,7 +587,6 @@ pub record FaultsClause {D M : Type 0} (g : disk.Ghosts D) (h : drive.Ghosts M) 
 
 -- All that is promised of a run whose words have that form, by what the host, the source and the sink tell before it and after it.
 pub record KeepsPromises {H D M : Type 0} (t : host.Ghosts H D M) (g : disk.Ghosts D) (h : drive.Ghosts M) (form : Option Form) (old new : H) (source : SourceTold) (sink : SinkTold) (o : Outcome D M) : Type 0 where
-  pub script : ScriptClause h (t.stores old) form source o
   pub deeds : DeedsClause h (t.stores old) form source o
   pub reading : ReadingClause form source o
   pub legality : LegalityClause g o

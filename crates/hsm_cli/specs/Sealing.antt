@@ -1,7 +1,5 @@
--- What the marks of a run tell of what the migration daemon has sealed in it.
+-- What the marks of a run tell of what the migration daemon has sealed in it, on new drives that never fail.
 use Rattle.std.specs.Prelude.{◌≡◌, ℕ, List, ◌∷◌, ◌++◌, Some}
-use Rattle.media_model.specs.Objects.{Objects}
-use Rattle.media_model.specs.declared.drive.Drive as drive
 use Rattle.hsm_types.specs.declared.daemons.Daemon.TheVariants.{Recall}
 use Rattle.hsm_types.specs.declared.dm.DmCall.TheVariants.{Respond}
 use Rattle.hsm_types.specs.declared.dm.DmReply.{DmReply}
@@ -15,11 +13,8 @@ use Rattle.hsm_policy.specs.Settings.{standard}
 use Rattle.recall_daemon.specs.Known.{Known, Hand, IsNeeded}
 use Rattle.recall_daemon.specs.declared.away.Away.{Away}
 use Rattle.marked_history.specs.Marks.{Mark, made}
-use Rattle.hsm_replay.specs.Sealed.{sealed_in, IsUnnamed, IsUnsealed, AreOfOthers, Tallies}
+use Rattle.hsm_replay.specs.Sealed.{sealed_in, IsUnnamed, IsUnsealed, AreOfOthers}
 use Rattle.marked_history.specs.Served.{shown, nothing_shown}
-use Rattle.hosts.specs.Hosts.{AreHanded}
-
--- ---- on new drives that never fail
 
 -- No Seal of those first entries names the object. They have all that recall was told, as it has made none since.
 pub record IsUnknown (marks : List Mark) (entry : StubEntry) : Type 0 where
@@ -38,9 +33,3 @@ NeedsUnknown k marks = (hand : Hand) × (a : Away) × (k.hand ≡ Some hand) × 
 pub record LosesNothing (marks : List Mark) : Type 0 where
   pub aborts : (before : List Mark) (sid : Sid) (t : Token) (reply : DmReply) (rest : List Mark) → marks ≡ before ++ made Recall sid (Respond t (Abort 2)) reply ∷ rest → NeedsUnknown (shown standard nothing_shown before).recall before
   pub damages : (before : List Mark) (sid : Sid) (t : Token) (volume object : ℕ) (want got : Fingerprint) (reply : DmReply) (rest : List Mark) → marks ≡ before ++ made Recall sid (Respond t (Media (Damaged volume object want got))) reply ∷ rest → IsUnsealed (sealed_in before) volume object want
-
--- ---- on drives of the host
-
--- The drives are those of a folder as the host handed them out, used, and the marks tally with them.
-abbrev pub TalliesSince : {M : Type 0} → drive.Ghosts M → (ℕ → Objects → Type 0) → List M → List Mark → Type 0
-TalliesSince {M = M} g stored drives marks = (handed : List M) × AreHanded g stored standard.drives standard.volumes standard.capacity handed × Tallies g handed drives standard marks

@@ -1,5 +1,5 @@
 //! A drill: the script that is made of a number, run on a new small store in memory.
-ghost use Rattle.std.specs.Prelude.{◌≡◌, ◌≢◌, ◌⊎◌, length, true, false, None, Some, IfOk, IfErr, IfSome, IsOk, OnOk, IsErrOf};
+ghost use Rattle.std.specs.Prelude.{◌≡◌, ◌≢◌, ◌⊎◌, length, true, false, None, Some, IfOk, IfErr, IfSome, IsOk, IsErrOf};
 ghost use Rattle.disk_model.specs.Calls.{RoseByOne};
 ghost use Rattle.disk_model.specs.Moments.{Tells};
 ghost use Rattle.media_model.specs.contracts.sure.SureDriveDrive.TheImpl as sure;
@@ -13,18 +13,16 @@ ghost use Rattle.drill_script.specs.Summary.{summary_line};
 ghost use Rattle.hosts.specs.Hosts.{AreHanded};
 ghost use Rattle.hsm_replay.specs.Drives.{HaveGrown};
 ghost use Rattle.hsm_replay.specs.Faults.{faults_in, AreTrue};
-ghost use Rattle.hsm_replay.specs.Sealed.{Tallies};
 ghost use Rattle.hsm_system.specs.Events.{HasGrown};
-ghost use Rattle.hsm_cli.specs.Openings.{opened_in, replay_store};
+ghost use Rattle.hsm_cli.specs.Openings.{replay_store};
 ghost use Rattle.hsm_cli.specs.Outcomes.{ended_with};
-ghost use Rattle.hsm_cli.specs.Follows.{RunsBy, FollowsFirst, IsRunOf, SettlesOn};
-ghost use Rattle.hsm_cli.specs.Daemons.{KeepsThroughoutOver, ServedIsWell, ServedKeepsThroughout};
+ghost use Rattle.hsm_cli.specs.Follows.{SettlesOn};
+ghost use Rattle.hsm_cli.specs.Daemons.{ServedIsWell};
 ghost use Rattle.hsm_cli.specs.Deeds.{AreDone, AreThese, DrivesInMemory, HasDone, HaveGone, MayGoOnOver, RunHasDone, without_objects};
-ghost use Rattle.hsm_cli.specs.Sealing.{LosesNothing};
 ghost use Rattle.hsm_cli.specs.Texts.{TakesText, HasLeft, drill_text};
 ghost use Rattle.hsm_cli.specs.RunObjects.{FailsOnce, sink_told};
 ghost use Rattle.hsm_cli.specs.Endings.{cause_in, WritingEnds, LinesEnd};
-ghost use Rattle.hsm_cli.specs.Clauses.{HasDrilled, IsPackedOver, IsGoodOver, IsPlainOver, IsCausedOver, NoneFailed};
+ghost use Rattle.hsm_cli.specs.Clauses.{IsPackedOver, IsGoodOver, IsPlainOver, IsCausedOver, NoneFailed};
 ghost use Rattle.hsm_cli.specs.Runs.{IsOpenedAnew, IsReady};
 
 use crate::causes::Cause;
@@ -77,7 +75,6 @@ struct Drilled<D, M> {
 /// Runs the script that is made of that number on a new small store in memory, and writes one line on its run.
 pub(crate) fn drill<D: Disk, M, O: Sink>(alloc: Global, number: u64, sink: &mut O) -> Outcome<D, M>
     ensures ended { result ≡ ended_with result.cause result.history None }
-    ensures script { HasDrilled (SettlesOn (opened_in result)) (λ marks. KeepsThroughoutOver (opened_in result) marks × LosesNothing marks) number result.cause result.history }
     ensures deeds { RunHasDone standard (AreThese (drill_lines number)) (DrivesInMemory standard) result }
     ensures legality { IsGoodOver {D = D} None result.history }
     ensures packed { IsPackedOver {D = D} None result.history }
@@ -129,11 +126,8 @@ fn run_on<D: Disk, M: Drive>(
 ) -> Drilled<D, M>
     requires anew { IsOpenedAnew hsm }
     requires count { length drives.items ≡ standard.drives }
-    ensures all { OnOk result.ended (IsRunOf (RunsBy (SettlesOn (Some hsm.opened)) script) (Tallies M.Drive drives.items result.drives.items standard) result.history) }
-    ensures first { IsRunOf (FollowsFirst (SettlesOn (Some hsm.opened)) script) (Tallies M.Drive drives.items result.drives.items standard) result.history }
-    ensures keeps { ServedKeepsThroughout (Some hsm.opened) result.history }
     ensures well { ServedIsWell (Some hsm.opened) result.history }
-    ensures deeds { HasDone standard (AreDone (MayGoOnOver (Some hsm.opened)) (AreThese script) (cause_in result.ended)) (λ deeds. HaveGone M.Drive drives.items deeds result.drives.items) result.history }
+    ensures deeds { HasDone standard (AreDone (MayGoOnOver (Some hsm.opened)) (SettlesOn (Some hsm.opened)) (AreThese script) (cause_in result.ended)) (λ deeds. HaveGone M.Drive standard drives.items deeds result.drives.items) result.history }
     ensures good { Tells D.Disk result.disk → IsGoodOver (Some hsm.opened) result.history }
     ensures packed { IsPackedOver (Some hsm.opened) result.history }
     ensures caused_by { IsCausedOver (Some hsm.opened) result.history }
@@ -175,9 +169,7 @@ fn run_all<D: Disk, M: Drive>(
     requires limits { replay.old.system.limits ≡ standard }
     ensures drives { HaveGrown M.Drive replay.old.drives replay.new.drives }
     ensures goes_on { HasGrown D.Disk replay.old.system.store replay.new.system.store }
-    ensures all { OnOk result (IsRunOf (RunsBy (SettlesOn (Some replay.old.system.store.opened)) script) (Tallies M.Drive replay.old.drives replay.new.drives standard) replay.new.system.store.history) }
-    ensures first { IsRunOf (FollowsFirst (SettlesOn (Some replay.old.system.store.opened)) script) (Tallies M.Drive replay.old.drives replay.new.drives standard) replay.new.system.store.history }
-    ensures deeds { HasDone standard (AreDone (MayGoOnOver (Some replay.old.system.store.opened)) (AreThese script) (cause_in result)) (λ deeds. HaveGone M.Drive replay.old.drives deeds replay.new.drives) replay.new.system.store.history }
+    ensures deeds { HasDone standard (AreDone (MayGoOnOver (Some replay.old.system.store.opened)) (SettlesOn (Some replay.old.system.store.opened)) (AreThese script) (cause_in result)) (λ deeds. HaveGone M.Drive standard replay.old.drives deeds replay.new.drives) replay.new.system.store.history }
     ensures media { AreTrue M.Drive replay.new.drives (faults_in replay.new.system.store.history) }
     ensures ends { IfErr result (LinesEnd (RoseByOne (D.fault_count replay.old.system.store.files.disk) (D.fault_count replay.new.system.store.files.disk))) }
     ensures failed { replay.new.system.store.files.failed ≡ true → IsErrOf result Cause.DiskFault }

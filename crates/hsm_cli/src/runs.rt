@@ -3,12 +3,13 @@ ghost use Rattle.std.specs.Prelude.{◌≡◌, true, OnOk};
 ghost use Rattle.std.specs.List.{AllByRecursion};
 ghost use Rattle.script_text.specs.Lines.{IsLine};
 ghost use Rattle.hsm_replay.specs.Deeds.{ByDeeds};
-ghost use Rattle.hsm_replay.specs.Drives.{HaveGrown};
 ghost use Rattle.hsm_replay.specs.ReadyCallers.{MayGoOn};
 ghost use Rattle.hsm_system.specs.Events.{Runs};
 ghost use Rattle.hsm_replay.specs.Running.{IsAllDurable};
+ghost use Rattle.hsm_replay.specs.Systems.{running};
+ghost use Rattle.marked_history.specs.Settling.{none_run, running_behind};
 ghost use Rattle.hsm_cli.specs.Deeds.{AreCutIn, AreOfLines};
-ghost use Rattle.hsm_cli.specs.Follows.{FollowsFirst, HasRunOn, IsRunTo, RunsBy, SettlesSince, lines_run};
+ghost use Rattle.hsm_cli.specs.Follows.{SettlesSince, lines_run};
 ghost use Rattle.hsm_cli.specs.Runs.{IsReady};
 
 use disk_model::Disk;
@@ -25,12 +26,8 @@ pub(crate) fn run<D: Disk, M: Drive>(
     commits: bool,
 ) -> Result<(), Stop>
     requires ready { IsReady replay.old }
-    ensures limits { replay.new.system.limits ≡ replay.old.system.limits }
-    ensures drives { HaveGrown M.Drive replay.old.drives replay.new.drives }
     ensures runs { Runs D.Disk result replay.old.system.store replay.new.system.store }
-    ensures all { OnOk result (HasRunOn M.Drive replay.old.drives (RunsBy (SettlesSince replay.old) (lines_run commits script)) replay.new) }
-    ensures first { HasRunOn M.Drive replay.old.drives (FollowsFirst (SettlesSince replay.old) (lines_run commits script)) replay.new }
-    ensures deeds { ByDeeds M.Drive (λ done. AreOfLines (MayGoOn replay.old.system.store) (lines_run commits script)) (AreCutIn (MayGoOn replay.old.system.store) (lines_run commits script)) result replay.old replay.new }
+    ensures deeds { ByDeeds M.Drive (λ done. AreOfLines (MayGoOn replay.old.system.store) (SettlesSince replay.old) (lines_run commits script)) (AreCutIn (MayGoOn replay.old.system.store) (SettlesSince replay.old) (lines_run commits script)) result replay.old replay.new }
     ensures durable { commits ≡ true → OnOk result (IsAllDurable replay.new.system.store) }
 {
     run_lines(alloc, replay, script.into_lines())?;
@@ -48,12 +45,9 @@ fn run_lines<D: Disk, M: Drive>(
 ) -> Result<(), Stop>
     requires lawful { AllByRecursion IsLine lines }
     requires ready { IsReady replay.old }
-    ensures limits { replay.new.system.limits ≡ replay.old.system.limits }
-    ensures drives { HaveGrown M.Drive replay.old.drives replay.new.drives }
     ensures runs { Runs D.Disk result replay.old.system.store replay.new.system.store }
-    ensures all { OnOk result (IsRunTo M.Drive replay.old lines replay.new) }
-    ensures first { HasRunOn M.Drive replay.old.drives (FollowsFirst (SettlesSince replay.old) lines) replay.new }
-    ensures deeds { ByDeeds M.Drive (λ done. AreOfLines (MayGoOn replay.old.system.store) lines) (AreCutIn (MayGoOn replay.old.system.store) lines) result replay.old replay.new }
+    ensures running { OnOk result (running replay.new ≡ running_behind lines none_run) }
+    ensures deeds { ByDeeds M.Drive (λ done. AreOfLines (MayGoOn replay.old.system.store) (SettlesSince replay.old) lines) (AreCutIn (MayGoOn replay.old.system.store) (SettlesSince replay.old) lines) result replay.old replay.new }
 {
     for line in lines {
         replay.line(alloc, line)?;

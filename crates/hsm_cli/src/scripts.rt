@@ -12,14 +12,13 @@ ghost use Rattle.script_text.specs.Scripts.{IsScript};
 ghost use Rattle.hsm_policy.specs.Settings.{standard};
 ghost use Rattle.hsm_replay.specs.Drives.{HaveGrown};
 ghost use Rattle.hsm_replay.specs.Faults.{faults_in, AreTrue};
-ghost use Rattle.hsm_replay.specs.Sealed.{Tallies};
 ghost use Rattle.hsm_system.specs.Events.{HasGrown};
 ghost use Rattle.hsm_replay.specs.Running.{IsAllDurable};
 ghost use Rattle.hsm_cli.specs.Sources.{script_bytes, GivesFirst};
 ghost use Rattle.hsm_cli.specs.Follows.{SettlesOn};
-ghost use Rattle.hsm_cli.specs.Daemons.{ServedIsWell, ServedKeepsThroughout};
+ghost use Rattle.hsm_cli.specs.Daemons.{ServedIsWell};
 ghost use Rattle.hsm_cli.specs.Deeds.{AreDone, AreOfScript, HasDone, HaveGone, MayGoOnOver};
-ghost use Rattle.hsm_cli.specs.Clauses.{HasRun, HasRead, IsRunOver, IsOrderlyOver, IsPackedOver, IsGoodOver, IsPlainOver, IsCausedOver, IsWhole, IsBeforeRun};
+ghost use Rattle.hsm_cli.specs.Clauses.{HasRead, IsRunOver, IsOrderlyOver, IsPackedOver, IsGoodOver, IsPlainOver, IsCausedOver, IsWhole, IsBeforeRun};
 ghost use Rattle.hsm_cli.specs.Clauses.{RanToItsEnd, ReadsQuietly, WritesQuietly};
 ghost use Rattle.hsm_cli.specs.Endings.{cause_in, IsBeforeReading, ScriptEnds, WritingEnds, RunEnds, first_of};
 ghost use Rattle.hsm_cli.specs.RunObjects.{FailsOnce, source_told, sink_told};
@@ -76,10 +75,8 @@ pub(crate) fn run_opened<D: Disk, M: Drive, I: Source, O: Sink>(
     requires ready { IfErr drives IsBeforeReading }
     ensures opening { result.opening.value ≡ hsm.opened }
     ensures base { result.base ≡ hsm.opened.meta.number }
-    ensures script { HasRun (SettlesOn (Some hsm.opened)) (λ marks. IfOk drives (λ ds. Tallies M.Drive ds.items result.drives.items standard marks)) commits (source_told I.left I.fault_count source.old source.new) result.cause result.history }
-    ensures keeps { ServedKeepsThroughout (Some hsm.opened) result.history }
     ensures well { ServedIsWell (Some hsm.opened) result.history }
-    ensures deeds { HasDone standard (AreDone (MayGoOnOver (Some hsm.opened)) (AreOfScript commits (I.left source.old)) result.cause) (λ deeds. MatchResult drives (λ ds. HaveGone M.Drive ds.items deeds result.drives.items) (λ why. deeds ≡ [])) result.history }
+    ensures deeds { HasDone standard (AreDone (MayGoOnOver (Some hsm.opened)) (SettlesOn (Some hsm.opened)) (AreOfScript commits (I.left source.old)) result.cause) (λ deeds. MatchResult drives (λ ds. HaveGone M.Drive standard ds.items deeds result.drives.items) (λ why. deeds ≡ [])) result.history }
     ensures reading { HasRead (source_told I.left I.fault_count source.old source.new) result.cause }
     ensures legality { IsRunOver (Tells D.Disk result.disk) (Some hsm.opened) result.history }
     ensures orderly { IsOrderlyOver (Some hsm.opened) result.history }
@@ -151,8 +148,7 @@ fn run_with<D: Disk, M: Drive, I: Source>(
     requires count { IfOk drives (λ ds. length ds.items ≡ standard.drives) }
     requires ready { IfErr drives IsBeforeReading }
     ensures goes_on { HasGrown D.Disk hsm result.hsm }
-    ensures ran { HasRun (SettlesOn (Some hsm.opened)) (λ marks. IfOk drives (λ ds. Tallies M.Drive ds.items result.drives.items standard marks)) commits (source_told I.left I.fault_count source.old source.new) (cause_in result.ended) result.hsm.history }
-    ensures deeds { HasDone standard (AreDone (MayGoOnOver (Some hsm.opened)) (AreOfScript commits (I.left source.old)) (cause_in result.ended)) (λ deeds. MatchResult drives (λ ds. HaveGone M.Drive ds.items deeds result.drives.items) (λ why. deeds ≡ [])) result.hsm.history }
+    ensures deeds { HasDone standard (AreDone (MayGoOnOver (Some hsm.opened)) (SettlesOn (Some hsm.opened)) (AreOfScript commits (I.left source.old)) (cause_in result.ended)) (λ deeds. MatchResult drives (λ ds. HaveGone M.Drive standard ds.items deeds result.drives.items) (λ why. deeds ≡ [])) result.hsm.history }
     ensures reading { HasRead (source_told I.left I.fault_count source.old source.new) (cause_in result.ended) }
     ensures part { GivesFirst (I.left source.old) (I.left source.new) }
     ensures unready { IfErr drives (λ why. cause_in result.ended ≡ Some why) }
@@ -193,8 +189,7 @@ fn run_script<D: Disk, M: Drive, I: Source>(
     requires ready { IsReady replay.old }
     requires limits { replay.old.system.limits ≡ standard }
     ensures goes_on { HasGrown D.Disk replay.old.system.store replay.new.system.store }
-    ensures ran { HasRun (SettlesOn (Some replay.old.system.store.opened)) (Tallies M.Drive replay.old.drives replay.new.drives standard) commits (source_told I.left I.fault_count source.old source.new) (cause_in result) replay.new.system.store.history }
-    ensures deeds { HasDone standard (AreDone (MayGoOnOver (Some replay.old.system.store.opened)) (AreOfScript commits (I.left source.old)) (cause_in result)) (λ deeds. HaveGone M.Drive replay.old.drives deeds replay.new.drives) replay.new.system.store.history }
+    ensures deeds { HasDone standard (AreDone (MayGoOnOver (Some replay.old.system.store.opened)) (SettlesOn (Some replay.old.system.store.opened)) (AreOfScript commits (I.left source.old)) (cause_in result)) (λ deeds. HaveGone M.Drive standard replay.old.drives deeds replay.new.drives) replay.new.system.store.history }
     ensures reading { HasRead (source_told I.left I.fault_count source.old source.new) (cause_in result) }
     ensures part { GivesFirst (I.left source.old) (I.left source.new) }
     ensures ends { IfErr result (λ why. ScriptEnds ⊥ (RoseByOne (D.fault_count replay.old.system.store.files.disk) (D.fault_count replay.new.system.store.files.disk)) (source_told I.left I.fault_count source.old source.new) why) }

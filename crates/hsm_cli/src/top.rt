@@ -10,17 +10,14 @@ ghost use Rattle.hsm_replay.specs.Faults.{faults_in, AreTrue};
 ghost use Rattle.hsm_cli.specs.Statuses.{status_of, place_of};
 ghost use Rattle.hsm_cli.specs.Openings.{opened_in, base_of};
 ghost use Rattle.hsm_cli.specs.Outcomes.{ended_with};
-ghost use Rattle.hsm_cli.specs.Follows.{SettlesOn};
-ghost use Rattle.hsm_cli.specs.Clauses.{ScriptClause, ReadingClause, LegalityClause, PlainClause, MediaClause, NoneFailed, IsCausedOver, CrashClause};
-ghost use Rattle.hsm_cli.specs.Clauses.{FormatClause, HostClause, OutputClause, TakesTranscript, StatusClause, HasRun, HasRead, HasReadOn};
+ghost use Rattle.hsm_cli.specs.Clauses.{ReadingClause, LegalityClause, PlainClause, MediaClause, NoneFailed, IsCausedOver, CrashClause};
+ghost use Rattle.hsm_cli.specs.Clauses.{FormatClause, HostClause, OutputClause, TakesTranscript, StatusClause, HasRead, HasReadOn};
 ghost use Rattle.hsm_cli.specs.Clauses.{IsPackedOver, IsGoodOver, IsPlainOver, LeavesSafe, IsFormatted, HandsOut, HasFailed, HasBegun, Why, Lacks, DrivesClause};
 ghost use Rattle.hsm_cli.specs.Clauses.{GivesBack, HandsDrives, KeepsPromises, asked_by, FaultsClause, ReadsQuietly, WritesQuietly, KeepsQuietly};
 ghost use Rattle.hsm_cli.specs.Clauses.{HandsQuietly};
 ghost use Rattle.hsm_cli.specs.Endings.{RunEnds, FormatEnds, HandingEnds, IsBeforeReading};
 ghost use Rattle.hosts.specs.Hosts.{AreHanded, HoldsAll, StoresAll};
-ghost use Rattle.hsm_cli.specs.Daemons.{KeepsThroughoutOver};
 ghost use Rattle.hsm_cli.specs.Deeds.{AreOfScript, DeedsClause, DrivesInMemory, DrivesWent, RunHasDone};
-ghost use Rattle.hsm_cli.specs.Sealing.{LosesNothing, TalliesSince};
 ghost use Rattle.hsm_cli.specs.RunObjects.{FailsOnce, source_told, sink_told, host_told};
 
 use crate::causes::Cause;
@@ -56,7 +53,6 @@ pub fn hsm_main<H: Host, I: Source, O: Sink>(
     source: &mut I,
     sink: &mut O,
 ) -> Outcome<H::Disk, H::Drive>
-    ensures script { ScriptClause H.Drive.Drive (H.stores host.old) (form_of (map string_bytes words.now)) (source_told I.left I.fault_count source.old source.new) result }
     ensures deeds { DeedsClause H.Drive.Drive (H.stores host.old) (form_of (map string_bytes words.now)) (source_told I.left I.fault_count source.old source.new) result }
     ensures reading { ReadingClause (form_of (map string_bytes words.now)) (source_told I.left I.fault_count source.old source.new) result }
     ensures legality { LegalityClause H.Disk.Disk result }
@@ -147,7 +143,6 @@ fn replay<D: Disk, M, I: Source, O: Sink>(
     sink: &mut O,
 ) -> Outcome<D, M>
     ensures ended { result ≡ ended_with result.cause result.history None }
-    ensures script { HasRun (SettlesOn (opened_in result)) (λ marks. KeepsThroughoutOver (opened_in result) marks × LosesNothing marks) false (source_told I.left I.fault_count source.old source.new) result.cause result.history }
     ensures deeds { RunHasDone standard (AreOfScript false (I.left source.old)) (DrivesInMemory standard) result }
     ensures reading { HasRead (source_told I.left I.fault_count source.old source.new) result.cause }
     ensures legality { IsGoodOver {D = D} None result.history }
@@ -185,7 +180,6 @@ fn replay_store<H: Host, I: Source, O: Sink>(
 ) -> Outcome<H::Disk, H::Drive>
     ensures told { (result.status ≡ status_of result.cause) × (result.at ≡ place_of result.cause) × (result.base ≡ base_of (opened_in result)) }
     ensures command { result.cause ≢ Some Cause.WordsRefused }
-    ensures script { HasRun (SettlesOn (opened_in result)) (λ marks. KeepsThroughoutOver (opened_in result) marks × TalliesSince H.Drive.Drive (H.stores host.old dir.now) result.drives marks) true (source_told I.left I.fault_count source.old source.new) result.cause result.history }
     ensures deeds { RunHasDone standard (AreOfScript true (I.left source.old)) (DrivesWent H.Drive.Drive standard (H.stores host.old dir.now) result.drives) result }
     ensures reading { HasReadOn (opened_in result) (source_told I.left I.fault_count source.old source.new) result.cause }
     ensures legality { LegalityClause H.Disk.Disk result }

@@ -1,5 +1,5 @@
 -- What starts and ends of daemons keep.
-use Rattle.std.proofs.Common.{◌≡◌, ◌⊎◌, ◌++◌, [], ℕ, List, Option, Some, None, IfSome, Ok, true, inl, inr, refl, sym, ap, subst, append-nil, ◌∙◌}
+use Rattle.std.proofs.Common.{◌≡◌, ◌⊎◌, ◌++◌, ◌∷◌, [], ℕ, List, Option, Some, None, IfSome, Ok, true, inl, inr, refl, sym, ap, subst, append-nil, ◌∙◌}
 use Rattle.std.specs.Option.{option_map, option_or}
 use Rattle.disk_model.specs.declared.device.Disk as disk
 use Rattle.media_model.specs.declared.drive.Drive as drive
@@ -21,7 +21,7 @@ use Rattle.migrate_daemon.specs.Known as migrate
 use Rattle.migrate_daemon.specs.Machine as migrator
 use Rattle.hsm_system.specs.Running.{Recalling, Migrating}
 use Rattle.hsm_replay.specs.Faults.{faults_in}
-use Rattle.hsm_replay.specs.Keeping.{IsAtStart, IsShownAs, RecallKnows, MigrateKnows, Shows, Moves}
+use Rattle.hsm_replay.specs.Keeping.{IsAtStart, IsShownAs, RecallKnows, MigrateKnows, Shows, GrowsBy}
 use Rattle.marked_history.specs.Marks.{Mark}
 use Rattle.deeds.specs.Lives.{untold}
 use Rattle.hsm_system.specs.declared.daemons.Next.TheVariants.{Hears}
@@ -29,8 +29,9 @@ use Rattle.hsm_system.specs.Systems.{migrate_again}
 use Rattle.hsm_replay.specs.Sealed.{HearsLost, HearsStored}
 use Rattle.marked_history.specs.Served.{shown, nothing_shown}
 use Rattle.hsm_replay.specs.Systems.{Run, started, killed, refreshed, told_next}
-use Rattle.hsm_replay.proofs.Growing.{have_grown_itself}
-use Rattle.hsm_replay.proofs.Joining.{Settles, runs_itself}
+use Rattle.hsm_replay.proofs.Joining.{runs_itself}
+use Rattle.deeds.specs.Deeds.{Starts, Kills, Refreshes}
+use Rattle.hsm_system.specs.Events.{Runs}
 use Rattle.hsm_replay.proofs.MigrateShown.{hears_same}
 use Rattle.hsm_replay.proofs.Telling.{told_again}
 
@@ -112,7 +113,7 @@ begun : {A : Type 0} (P : A → Type 0) (o : Option A) (x : A) → IfSome o P �
 begun P None x has is = is
 begun P (Some y) x has is = has
 
-module _ {D M : Type 0} (g : disk.Ghosts D) (h : drive.Ghosts M) where
+module _ {M : Type 0} (h : drive.Ghosts M) where
   stored_untold : (drives : List M) (asked : Act) (told : Heard) → HearsStored h drives asked told → HearsStored h drives asked (untold told)
   stored_untold drives (Dm sid (dm_call.Seal t handle segment entry)) (heard.Dm (dm_reply.Space used total)) stored = stored
   stored_untold drives asked (heard.Dm (dm_reply.Space used total)) stored = tt
@@ -122,6 +123,7 @@ module _ {D M : Type 0} (g : disk.Ghosts D) (h : drive.Ghosts M) where
   stored_refreshes drives None stored = tt
   stored_refreshes drives (Some m) stored = subst (λ (t : Heard). HearsStored h drives m.machine.asked t) (sym (told_again m.next)) (stored_untold drives m.machine.asked (told_next m.next) stored)
 
+module _ {D M : Type 0} (h : drive.Ghosts M) where
   shows_started : (opened : List M) (marks : List Mark) (daemon : Daemon) (s : Run D M) → Shows h opened marks s → Shows h opened marks (started daemon s)
   shows_started opened marks Recall s shows = record {
     marked = record { entries = shows.marked.entries; served = shows.marked.served; faults = shows.marked.faults; sealed = shows.marked.sealed };
@@ -160,24 +162,28 @@ module _ {D M : Type 0} (g : disk.Ghosts D) (h : drive.Ghosts M) where
     recall = shows.recall;
     migrate = migrate_refreshes_if (shown s.system.limits nothing_shown marks).migrate s.system.migrate shows.migrate;
     lost = shows.lost;
-    stored = stored_refreshes s.drives s.system.migrate shows.stored;
+    stored = stored_refreshes h s.drives s.system.migrate shows.stored;
   }
 
   -- ---- no events
 
-  abbrev IsNone : List Mark → Type 0
-  IsNone marks = marks ≡ []
-
   still : (opened : List M) (marks : List Mark) (s : Run D M) → Shows h opened marks s → Shows h opened (marks ++ []) s
   still opened marks s shows = subst (λ (ms : List Mark). Shows h opened ms s) (sym (append-nil marks)) shows
 
-  pub starts_moves : (daemon : Daemon) (s : Run D M) → Moves {T = Unit {0}} g h IsNone (Ok tt) s (started daemon s)
-  starts_moves Recall s = record { limits = refl; drives = have_grown_itself h s.drives; runs = runs_itself g h tt s.system.store; keeps = λ opened marks shows. ([], refl, still opened marks (started Recall s) (shows_started opened marks Recall s shows), tt); ends = tt }
-  starts_moves Migrate s = record { limits = refl; drives = have_grown_itself h s.drives; runs = runs_itself g h tt s.system.store; keeps = λ opened marks shows. ([], refl, still opened marks (started Migrate s) (shows_started opened marks Migrate s shows), tt); ends = tt }
+  pub starts_grow : (daemon : Daemon) (s : Run D M) → GrowsBy h (Starts daemon ∷ []) s (started daemon s)
+  starts_grow daemon s opened marks shows = still opened marks (started daemon s) (shows_started opened marks daemon s shows)
 
-  pub kills_moves : (daemon : Daemon) (s : Run D M) → Moves {T = Unit {0}} g h IsNone (Ok tt) s (killed daemon s)
-  kills_moves Recall s = record { limits = refl; drives = have_grown_itself h s.drives; runs = runs_itself g h tt s.system.store; keeps = λ opened marks shows. ([], refl, still opened marks (killed Recall s) (shows_killed opened marks Recall s shows), tt); ends = tt }
-  kills_moves Migrate s = record { limits = refl; drives = have_grown_itself h s.drives; runs = runs_itself g h tt s.system.store; keeps = λ opened marks shows. ([], refl, still opened marks (killed Migrate s) (shows_killed opened marks Migrate s shows), tt); ends = tt }
+  pub kills_grow : (daemon : Daemon) (s : Run D M) → GrowsBy h (Kills daemon ∷ []) s (killed daemon s)
+  kills_grow daemon s opened marks shows = still opened marks (killed daemon s) (shows_killed opened marks daemon s shows)
 
-  pub refresh_moves : (s : Run D M) → Moves {T = Unit {0}} g h (Settles g h) (Ok tt) s (refreshed s)
-  refresh_moves s = record { limits = refl; drives = have_grown_itself h s.drives; runs = runs_itself g h tt s.system.store; keeps = λ opened marks shows. ([], tt, still opened marks (refreshed s) (shows_refreshed opened marks s shows), tt); ends = tt }
+  pub refresh_grows : (s : Run D M) → GrowsBy h (Refreshes ∷ []) s (refreshed s)
+  refresh_grows s opened marks shows = still opened marks (refreshed s) (shows_refreshed opened marks s shows)
+
+-- the store is as it was
+pub starts_run : {D M : Type 0} (g : disk.Ghosts D) (daemon : Daemon) (s : Run D M) → Runs g {T = Unit {0}} (Ok tt) s.system.store (started daemon s).system.store
+starts_run g Recall s = runs_itself g tt s.system.store
+starts_run g Migrate s = runs_itself g tt s.system.store
+
+pub kills_run : {D M : Type 0} (g : disk.Ghosts D) (daemon : Daemon) (s : Run D M) → Runs g {T = Unit {0}} (Ok tt) s.system.store (killed daemon s).system.store
+kills_run g Recall s = runs_itself g tt s.system.store
+kills_run g Migrate s = runs_itself g tt s.system.store

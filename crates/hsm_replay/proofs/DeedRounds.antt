@@ -1,6 +1,6 @@
 -- The deeds of events, turns, resumes and rounds.
 use Rattle.std.proofs.Common.{◌≡◌, ◌∙◌, ◌+◌, ◌∷◌, ◌++◌, [], ℕ, Bool, true, false, List, length}
-use Rattle.std.proofs.Common.{drop, Option, Some, None, option_map, Result, Ok, Err, OnErr, inl, inr}
+use Rattle.std.proofs.Common.{drop, Option, Some, None, option_map, Result, Ok, Err, inl, inr}
 use Rattle.std.proofs.Common.{refl, sym, ap, subst, append-nil, append_assoc}
 use Rattle.std.specs.List.{list_all}
 use Rattle.std.specs.Prelude.{IfSome}
@@ -30,23 +30,31 @@ use Rattle.hsm_system.specs.declared.events.Event.{Event}
 use Rattle.hsm_system.specs.Running.{Migrating, Recalling}
 use Rattle.hsm_system.specs.declared.stops.Stop.{Stop}
 use Rattle.hsm_system.specs.declared.stops.Stop.TheVariants as stop
+use Rattle.marked_history.specs.Marks.{Mark}
 use Rattle.marked_history.specs.Quiet.{is_quiet}
-use Rattle.hsm_replay.specs.Deeds.{given_now, IsSo, RunsBy, IsDoneBy, IsStoppedBy, ByDeeds}
+use Rattle.marked_history.specs.Served.{NamesNoFault}
+use Rattle.hsm_replay.specs.Deeds.{given_now, IsSo, RunsBy, IsDoneBy, IsStoppedBy, IsStopOf, ByDeeds}
 use Rattle.hsm_replay.specs.Deeds.{MayResumeBy, IsResumeCut, IsRoundOf}
 use Rattle.hsm_replay.specs.ReadyCallers.{MayGoOn}
 use Rattle.hsm_replay.specs.Parts.{IsStep, IsLeft, IsLeftFrom, IsTurn, IsTurnFrom, IsTurnIf, AreResumes, are_quiet, IsRound, IsSettle}
 use Rattle.hsm_replay.specs.Stopped.{Ending, Broken, Unmade, AreResumesCut, IsEventCut, IsStepCut, IsLeftCut}
 use Rattle.hsm_replay.specs.Stopped.{IsLeftCutFrom, IsTurnCut, IsTurnCutFrom, IsRoundCut, IsSettleCut}
-use Rattle.hsm_replay.specs.Systems.{Run, started, killed}
+use Rattle.hsm_replay.specs.Keeping.{GrowsBy}
+use Rattle.hsm_replay.specs.Marking.{marks_of}
+use Rattle.hsm_replay.specs.Resting.{EndsInTurns, EndsMarked}
+use Rattle.hsm_replay.specs.Systems.{Run, started, killed, refreshed}
 use Rattle.hsm_replay.specs.Turns.{HasTurned, HaveResumed}
-use Rattle.hsm_replay.proofs.Deeds.{runs_still, done_none, done_then, stopped_then, done_as, stopped_as, done_to}
+use Rattle.hsm_replay.proofs.Beginning.{starts_grow, kills_grow, refresh_grows}
+use Rattle.hsm_replay.proofs.Deeds.{runs_still, ends_still, done_none, done_then, stopped_then, done_so, done_as, stopped_as, done_to}
+use Rattle.hsm_replay.proofs.Events.{entered_grows, entered_ends}
+use Rattle.hsm_replay.proofs.Marking.{marks_then}
 use Rattle.hsm_replay.proofs.PartsOn.{IsAtRest, IsSoFar, so_far_none, so_far_on, so_far_over, so_far_cut}
 use Rattle.hsm_replay.proofs.PartsOn.{step_turns, step_turns_cut, step_cut, left_turns, left_cut, left_turns_cut}
 use Rattle.hsm_replay.proofs.ReadyCallers.{goes_as}
 use Rattle.hsm_replay.proofs.Resuming.{ResumesTo, resumes_none, resumes_all, resume_next, resume_cut}
 use Rattle.hsm_replay.proofs.PartsOn.{RoundsTo, rounds_none, rounds_on, rounds_settle, rounds_cut}
 use Rattle.hsm_replay.proofs.PartsRun.{given_so}
-use Rattle.hsm_replay.proofs.Rounds.{drop_first}
+use Rattle.hsm_replay.proofs.Rounds.{drop_first, behind_same, ends_later, turns_end, round_ends}
 
 -- ---- events
 
@@ -56,27 +64,42 @@ IsEntryOf actor asked given deeds = (told : Answer) × StopsNothing told × (dee
 abbrev pub IsCutOf : Actor → Action → Given → Ending → List Deed → Type 0
 IsCutOf actor asked given ending deeds = IsEventCut actor asked ending deeds
 
-module _ {D M : Type 0} (h : drive.Ghosts M) (old new : Run D M) (same : new.drives ≡ old.drives) where
+module _ {D M : Type 0} (h : drive.Ghosts M) (old new : Run D M) (leaves : new ≡ record old { system = record old.system { store = new.system.store } }) where
+  same_drives : new.drives ≡ old.drives
+  same_drives = ap (λ (s : Run D M). s.drives) leaves
+
   none_entered : Goes [] old.system new.system → RunsBy h [] old new
-  none_entered goes = runs_still h [] old new goes same (λ ds. (All-from_recursion (IsSo h ds) [] tt, refl)) refl
+  none_entered goes = runs_still h [] old new goes same_drives (λ ds. (All-from_recursion (IsSo h ds) [] tt, refl)) refl
 
   one_entered : (e : Entry) → Goes (Enters e ∷ []) old.system new.system → RunsBy h (Enters e ∷ []) old new
-  one_entered e goes = runs_still h (Enters e ∷ []) old new goes same (λ ds. (All-from_recursion (IsSo h ds) (Enters e ∷ []) (tt, tt), (ds, refl, refl))) refl
+  one_entered e goes = runs_still h (Enters e ∷ []) old new goes same_drives (λ ds. (All-from_recursion (IsSo h ds) (Enters e ∷ []) (tt, tt), (ds, refl, refl))) refl
 
-  module _ (actor : Actor) (asked : Action) where
+  module _ (actor : Actor) (asked : Action) (none : NamesNoFault asked) where
+    untold : (why : Stop) → Goes [] old.system new.system → IsStopOf h why Unmade old.system.store new.system.store → IsStoppedBy h (IsCutOf actor asked) why old new
+    untold why goes stops = record { ending = Unmade; deeds = []; cut = refl; runs = none_entered goes; ends = ends_still h [] old new refl refl (none_entered goes); stops = stops }
+
     event_stopped : (why : Stop) → EndsBy why (Enters (entry_of actor asked (fault_of asked)) ∷ []) [] old.system new.system → IsStoppedBy h (IsCutOf actor asked) why old new
-    event_stopped stop.Disk (inl broke) = record { ending = Broken; deeds = Enters (entry_of actor asked (fault_of asked)) ∷ []; cut = refl; runs = one_entered (entry_of actor asked (fault_of asked)) broke.0; stops = broke.1 }
-    event_stopped stop.Disk (inr closed) = record { ending = Unmade; deeds = []; cut = refl; runs = none_entered closed.0; stops = closed.1 }
-    event_stopped stop.Memory lacks = record { ending = Unmade; deeds = []; cut = refl; runs = none_entered lacks.0; stops = lacks.1 }
+    event_stopped stop.Disk (inl broke) = record {
+      ending = Broken;
+      deeds = Enters (entry_of actor asked (fault_of asked)) ∷ [];
+      cut = refl;
+      runs = one_entered (entry_of actor asked (fault_of asked)) broke.0;
+      ends = entered_ends h old new leaves actor asked (fault_of asked) none broke.0.leads.entries;
+      stops = broke.1;
+    }
+    event_stopped stop.Disk (inr closed) = untold stop.Disk closed.0 closed.1
+    event_stopped stop.Memory lacks = untold stop.Memory lacks.0 lacks.1
 
     pub event_by_deeds : {T : Type 0} (result : Result T Stop) → EntersBy actor asked result old.system new.system → ByDeeds h (λ (done : T). IsEntryOf actor asked) (IsCutOf actor asked) result old new
     event_by_deeds (Ok x) enters =
         let by = enters.done in
         let e : Entry = entry_of actor asked by.1.0 in
+        let goes : Goes (Enters e ∷ []) old.system new.system = subst (λ (ds : List Deed). Goes ds old.system new.system) by.1.2 by.2 in
         record {
           deeds = Enters e ∷ [];
           part = (by.1.0, by.1.1, refl);
-          runs = one_entered e (subst (λ (ds : List Deed). Goes ds old.system new.system) by.1.2 by.2);
+          runs = one_entered e goes;
+          grows = entered_grows h old new leaves actor asked by.1.0 none goes.leads.entries;
           works = inr enters.works;
         }
     event_by_deeds (Err why) enters = event_stopped why enters.stopped
@@ -109,10 +132,10 @@ module _ {D M : Type 0} (h : drive.Ghosts M) (daemon : Daemon) (old new : Run D 
       by Migrate same = ap (λ (s : Run D M). s.system.store) same
 
   pub started_done : new ≡ started daemon old → RunsBy h (Starts daemon ∷ []) old new → IsDoneBy h (λ given deeds. deeds ≡ Starts daemon ∷ []) old new
-  started_done is runs = record { deeds = Starts daemon ∷ []; part = refl; runs = runs; works = inl (sym (started_store (sym is))) }
+  started_done is runs = record { deeds = Starts daemon ∷ []; part = refl; runs = runs; grows = subst (λ (s : Run D M). GrowsBy h (Starts daemon ∷ []) old s) (sym is) (starts_grow h daemon old); works = inl (sym (started_store (sym is))) }
 
   pub killed_done : new ≡ killed daemon old → RunsBy h (Kills daemon ∷ []) old new → IsDoneBy h (λ given deeds. deeds ≡ Kills daemon ∷ []) old new
-  killed_done is runs = record { deeds = Kills daemon ∷ []; part = refl; runs = runs; works = inl (sym (killed_store (sym is))) }
+  killed_done is runs = record { deeds = Kills daemon ∷ []; part = refl; runs = runs; grows = subst (λ (s : Run D M). GrowsBy h (Kills daemon ∷ []) old s) (sym is) (kills_grow h daemon old); works = inl (sym (killed_store (sym is))) }
 
 -- ---- turns
 
@@ -236,62 +259,95 @@ module _ {D M : Type 0} (h : drive.Ghosts M) where
 
 -- ---- rounds
 
+-- a turn of the daemon, with these entries
+abbrev pub IsTurnWith : Daemon → List Entry → Given → List Deed → Type 0
+IsTurnWith daemon entries given deeds = IsTurn daemon given deeds × (entries_of deeds ≡ entries)
+
 -- recall's turn, and the resumes behind it
-abbrev pub HasBegun : (List Entry → ℕ → Type 0) → Given → List Deed → Type 0
-HasBegun May given deeds = (recalls : List Deed) × (resumes : List Deed) × (deeds ≡ recalls ++ resumes) × IsTurn Recall given recalls × AreResumes May (given_behind recalls given) resumes
+abbrev pub HasBegun : (List Entry → ℕ → Type 0) → List Entry → Given → List Deed → Type 0
+HasBegun May entries given deeds = (recalls : List Deed) × (resumes : List Deed) × (deeds ≡ recalls ++ resumes) × IsTurnWith Recall entries given recalls × AreResumes May (given_behind recalls given) resumes
+
+-- a round, of which the marks tell how the store came to rest
+abbrev pub IsRoundTo : {D M : Type 0} → (List Entry → ℕ → Type 0) → Run D M → Run D M → Bool → Given → List Deed → Type 0
+IsRoundTo May old new quiet given deeds = IsRoundOf May quiet given deeds × (quiet ≡ true → EndsMarked old new deeds)
+
+-- the last of more deeds are those of the same turns
+ends_behind : {D M : Type 0} (old new : Run D M) (deeds more : List Deed) → EndsMarked old new more → EndsMarked old new (deeds ++ more)
+ends_behind old new deeds more ends =
+    (ends.0, subst (λ (ms : List Mark). EndsInTurns ms ends.0.recall_turn ends.0.migrate_turn) (sym (marks_then deeds more)) (ends_later (marks_of deeds) (marks_of more) ends.0.recall_turn ends.0.migrate_turn ends.1))
 
 module _ {D M : Type 0} (h : drive.Ghosts M) where
-  pub round_begun_by : (a b c : Run D M) → b.system.store.opened ≡ a.system.store.opened → IsDoneBy h (IsTurn Recall) a b → IsDoneBy h (AreResumes (MayGoOn b.system.store)) b c → IsDoneBy h (HasBegun (MayGoOn a.system.store)) a c
-  round_begun_by a b c opened turn resumes = done_then h (IsTurn Recall) (AreResumes (MayGoOn a.system.store)) (HasBegun (MayGoOn a.system.store)) a b c (λ deeds more is then. (deeds, more, refl, is, then))
-      turn (done_since h (IsTurn Recall) a b turn opened AreResumes c resumes)
+  turn_with : (daemon : Daemon) (a b : Run D M) (turned : HasTurned daemon a b) → IsDoneBy h (IsTurn daemon) a b → IsDoneBy h (IsTurnWith daemon turned.entries) a b
+  turn_with daemon a b turned turn =
+      let same : entries_of turn.deeds ≡ turned.entries = behind_same a.system.store.history (entries_of turn.deeds) turned.entries (sym turn.runs.goes.leads.entries ∙ turned.history) in
+      done_so h (IsTurn daemon) (IsTurnWith daemon turned.entries) a b turn (turn.part, same)
+
+  pub round_begun_by : (a b c : Run D M) (turned : HasTurned Recall a b) → b.system.store.opened ≡ a.system.store.opened → IsDoneBy h (IsTurn Recall) a b → IsDoneBy h (AreResumes (MayGoOn b.system.store)) b c → IsDoneBy h (HasBegun (MayGoOn a.system.store) turned.entries) a c
+  round_begun_by a b c turned opened turn resumes =
+      done_then h (IsTurnWith Recall turned.entries) (AreResumes (MayGoOn a.system.store)) (HasBegun (MayGoOn a.system.store) turned.entries) a b c (λ deeds more is then. (deeds, more, refl, is, then))
+      (turn_with Recall a b turned turn) (done_since h (IsTurn Recall) a b turn opened AreResumes c resumes)
 
   -- whether the entries of what was done are quiet
   pub quiet_by : (IsPart : Given → List Deed → Type 0) (a b : Run D M) (quiet : Bool) → quiet ≡ list_all is_quiet (drop (length a.system.store.history) b.system.store.history) → IsDoneBy h IsPart a b → IsDoneBy h (λ given deeds. IsPart given deeds × (are_quiet is_quiet deeds ≡ quiet)) a b
   quiet_by IsPart a b quiet is done =
       let added : b.system.store.history ≡ a.system.store.history ++ entries_of done.deeds = done.runs.goes.leads.entries in
       let rest : drop (length a.system.store.history) b.system.store.history ≡ entries_of done.deeds = ap (λ (es : List Entry). drop (length a.system.store.history) es) added ∙ drop_first a.system.store.history (entries_of done.deeds) in
-      record { deeds = done.deeds; part = (done.part, sym (is ∙ ap (λ (es : List Entry). list_all is_quiet es) rest)); runs = done.runs; works = done.works }
+      done_so h IsPart (λ given deeds. IsPart given deeds × (are_quiet is_quiet deeds ≡ quiet)) a b done (done.part, sym (is ∙ ap (λ (es : List Entry). list_all is_quiet es) rest))
 
   -- it ends there where something wasn't quiet
-  pub round_loud : (May : List Entry → ℕ → Type 0) (a c : Run D M) → false ≡ list_all is_quiet (drop (length a.system.store.history) c.system.store.history) → IsDoneBy h (HasBegun May) a c → IsDoneBy h (IsRoundOf May false) a c
-  round_loud May a c loud begun = done_as h (λ given deeds. HasBegun May given deeds × (are_quiet is_quiet deeds ≡ false)) (IsRoundOf May false) a c
+  pub round_loud : (May : List Entry → ℕ → Type 0) (entries : List Entry) (a c : Run D M) → false ≡ list_all is_quiet (drop (length a.system.store.history) c.system.store.history) → IsDoneBy h (HasBegun May entries) a c → IsDoneBy h (IsRoundTo May a c false) a c
+  round_loud May entries a c loud begun = done_as h (λ given deeds. HasBegun May entries given deeds × (are_quiet is_quiet deeds ≡ false)) (IsRoundTo May a c false) a c
       (λ deeds is. (
-        record {
-          recalls = is.0.0;
-          resumes = is.0.1;
-          migrates = [];
-          parted = is.0.2 ∙ ap (λ (ds : List Deed). is.0.0 ++ ds) (sym (append-nil is.0.1));
-          recall_turn = is.0.3;
-          resumed = is.0.4;
-          migrate_turn = subst (λ (q : Bool). IsTurnIf q Migrate (given_now a) []) (sym (ap (are_quiet is_quiet) (sym is.0.2) ∙ is.1)) refl;
-        },
-        is.1,
+        (
+          record {
+            recalls = is.0.0;
+            resumes = is.0.1;
+            migrates = [];
+            parted = is.0.2 ∙ ap (λ (ds : List Deed). is.0.0 ++ ds) (sym (append-nil is.0.1));
+            recall_turn = is.0.3.0;
+            resumed = is.0.4;
+            migrate_turn = subst (λ (q : Bool). IsTurnIf q Migrate (given_now a) []) (sym (ap (are_quiet is_quiet) (sym is.0.2) ∙ is.1)) refl;
+          },
+          is.1,
+        ),
+        λ quiet. let wrong : false ≡ true = quiet in cc wrong,
       ))
-      (quiet_by (HasBegun May) a c false loud begun)
+      (quiet_by (HasBegun May entries) a c false loud begun)
 
   -- migration's turn is by what it gave before the round
   migrate_same : (a b c : Run D M) → HasTurned Recall a b → HaveResumed b c → (given_now c).migrate ≡ (given_now a).migrate
   migrate_same a b c turned resumed = ap (λ (o : Option Migrating). option_map (λ (m : Migrating). m.machine.asked) o) (resumed.migrate ∙ turned.alone)
 
-  abbrev BegunOf : (List Entry → ℕ → Type 0) → Run D M → Given → List Deed → Type 0
-  BegunOf May a given deeds = (HasBegun May given deeds × (are_quiet is_quiet deeds ≡ true)) × ((given_behind deeds given).migrate ≡ (given_now a).migrate)
+  abbrev BegunOf : (List Entry → ℕ → Type 0) → List Entry → Run D M → Given → List Deed → Type 0
+  BegunOf May entries a given deeds = (HasBegun May entries given deeds × (are_quiet is_quiet deeds ≡ true)) × ((given_behind deeds given).migrate ≡ (given_now a).migrate)
 
-  begun_of : (May : List Entry → ℕ → Type 0) (a b c : Run D M) → HasTurned Recall a b → HaveResumed b c → true ≡ list_all is_quiet (drop (length a.system.store.history) c.system.store.history) → IsDoneBy h (HasBegun May) a c → IsDoneBy h (BegunOf May a) a c
-  begun_of May a b c turned resumed calm begun = done_to h (λ given deeds. HasBegun May given deeds × (are_quiet is_quiet deeds ≡ true)) (λ (given : Given). given.migrate ≡ (given_now a).migrate) a c (migrate_same a b c turned resumed) (quiet_by (HasBegun May) a c true calm begun)
+  begun_of : (May : List Entry → ℕ → Type 0) (a b c : Run D M) (turned : HasTurned Recall a b) → HaveResumed b c → true ≡ list_all is_quiet (drop (length a.system.store.history) c.system.store.history) → IsDoneBy h (HasBegun May turned.entries) a c → IsDoneBy h (BegunOf May turned.entries a) a c
+  begun_of May a b c turned resumed calm begun =
+      done_to h (λ given deeds. HasBegun May turned.entries given deeds × (are_quiet is_quiet deeds ≡ true)) (λ (given : Given). given.migrate ≡ (given_now a).migrate) a c (migrate_same a b c turned resumed) (quiet_by (HasBegun May turned.entries) a c true calm begun)
 
-  pub round_done : (May : List Entry → ℕ → Type 0) (a b c d : Run D M) (quiet : Bool) → HasTurned Recall a b → HaveResumed b c → true ≡ list_all is_quiet (drop (length a.system.store.history) c.system.store.history) → quiet ≡ list_all is_quiet (drop (length a.system.store.history) d.system.store.history)
-      → IsDoneBy h (HasBegun May) a c → IsDoneBy h (IsTurn Migrate) c d → IsDoneBy h (IsRoundOf May quiet) a d
-  round_done May a b c d quiet turned resumed calm is begun turn = quiet_by (IsRound is_quiet May) a d quiet is (done_then h (BegunOf May a) (IsTurn Migrate) (IsRound is_quiet May) a c d
-      (λ deeds more so then. record {
-        recalls = so.0.0.0;
-        resumes = so.0.0.1;
-        migrates = more;
-        parted = ap (λ (ds : List Deed). ds ++ more) so.0.0.2 ∙ append_assoc so.0.0.0 so.0.0.1 more;
-        recall_turn = so.0.0.3;
-        resumed = so.0.0.4;
-        migrate_turn = subst (λ (q : Bool). IsTurnIf q Migrate (given_now a) more) (sym (ap (are_quiet is_quiet) (sym so.0.0.2) ∙ so.0.1)) (subst (λ (o : Option Act). IsTurnFrom Migrate o more) so.1 then);
-      })
-      (begun_of May a b c turned resumed calm begun) turn)
+  module _ (May : List Entry → ℕ → Type 0) (a b c d : Run D M) (quiet : Bool) (turned : HasTurned Recall a b) (resumed : HaveResumed b c) (migrated : HasTurned Migrate c d) where
+    -- with the marks of both turns
+    abbrev IsMarkedRound : Given → List Deed → Type 0
+    IsMarkedRound given deeds = IsRound is_quiet May given deeds × EndsInTurns (marks_of deeds) turned.entries migrated.entries
+
+    pub round_done : true ≡ list_all is_quiet (drop (length a.system.store.history) c.system.store.history) → quiet ≡ list_all is_quiet (drop (length a.system.store.history) d.system.store.history)
+        → IsDoneBy h (HasBegun May turned.entries) a c → IsDoneBy h (IsTurn Migrate) c d → IsDoneBy h (IsRoundTo May a d quiet) a d
+    round_done calm is begun turn = done_as h (λ given deeds. IsMarkedRound given deeds × (are_quiet is_quiet deeds ≡ quiet)) (IsRoundTo May a d quiet) a d
+        (λ deeds so. ((so.0.0, so.1), λ all_quiet. round_ends a b c d turned resumed migrated (sym (sym all_quiet ∙ is)) (marks_of deeds) so.0.1))
+        (quiet_by IsMarkedRound a d quiet is (done_then h (BegunOf May turned.entries a) (IsTurnWith Migrate migrated.entries) IsMarkedRound a c d
+        (λ deeds more so then. (
+          record {
+            recalls = so.0.0.0;
+            resumes = so.0.0.1;
+            migrates = more;
+            parted = ap (λ (ds : List Deed). ds ++ more) so.0.0.2 ∙ append_assoc so.0.0.0 so.0.0.1 more;
+            recall_turn = so.0.0.3.0;
+            resumed = so.0.0.4;
+            migrate_turn = subst (λ (q : Bool). IsTurnIf q Migrate (given_now a) more) (sym (ap (are_quiet is_quiet) (sym so.0.0.2) ∙ so.0.1)) (subst (λ (o : Option Act). IsTurnFrom Migrate o more) so.1 then.0);
+          },
+          turns_end so.0.0.0 so.0.0.1 deeds so.0.0.2 so.0.1 May (given_behind so.0.0.0 (given_now a)) so.0.0.4 more turned.entries migrated.entries (given_of Recall (given_now a)) so.0.0.3.0 so.0.0.3.1 (given_of Migrate (given_behind deeds (given_now a))) then.0 then.1,
+        ))
+        (begun_of May a b c turned resumed calm begun) (turn_with Migrate c d migrated turn)))
 
   -- ---- rounds that were stopped
 
@@ -302,14 +358,14 @@ module _ {D M : Type 0} (h : drive.Ghosts M) where
   resumes_cut_by why a b c opened turn stopped = stopped_then h (IsTurn Recall) (AreResumesCut (MayGoOn a.system.store)) (IsRoundCut is_quiet (MayGoOn a.system.store)) why a b c (λ ending deeds last is cut. inr (inl (deeds, last, refl, is, cut)))
       turn (stopped_since h (IsTurn Recall) a b turn opened AreResumesCut why c stopped)
 
-  pub migrate_cut : (May : List Entry → ℕ → Type 0) (why : Stop) (a b c d : Run D M) → HasTurned Recall a b → HaveResumed b c → true ≡ list_all is_quiet (drop (length a.system.store.history) c.system.store.history) → IsDoneBy h (HasBegun May) a c → IsStoppedBy h (IsTurnCut Migrate) why c d → IsStoppedBy h (IsRoundCut is_quiet May) why a d
-  migrate_cut May why a b c d turned resumed calm begun stopped = stopped_then h (BegunOf May a) (IsTurnCut Migrate) (IsRoundCut is_quiet May) why a c d
+  pub migrate_cut : (May : List Entry → ℕ → Type 0) (why : Stop) (a b c d : Run D M) (turned : HasTurned Recall a b) → HaveResumed b c → true ≡ list_all is_quiet (drop (length a.system.store.history) c.system.store.history) → IsDoneBy h (HasBegun May turned.entries) a c → IsStoppedBy h (IsTurnCut Migrate) why c d → IsStoppedBy h (IsRoundCut is_quiet May) why a d
+  migrate_cut May why a b c d turned resumed calm begun stopped = stopped_then h (BegunOf May turned.entries a) (IsTurnCut Migrate) (IsRoundCut is_quiet May) why a c d
       (λ ending deeds last so cut. inr (inr (
         so.0.0.0,
         so.0.0.1,
         last,
         ap (λ (ds : List Deed). ds ++ last) so.0.0.2 ∙ append_assoc so.0.0.0 so.0.0.1 last,
-        so.0.0.3,
+        so.0.0.3.0,
         so.0.0.4,
         ap (are_quiet is_quiet) (sym so.0.0.2) ∙ so.0.1,
         subst (λ (o : Option Act). IsTurnCutFrom Migrate o ending last) so.1 cut,
@@ -318,8 +374,14 @@ module _ {D M : Type 0} (h : drive.Ghosts M) where
 
   -- ---- settles
 
-  pub settle_begun : (a b : Run D M) → RunsBy h (Refreshes ∷ []) a b → b.system.store ≡ a.system.store → IsDoneBy h (RoundsTo is_quiet (MayGoOn a.system.store)) a b
-  settle_begun a b runs same = record { deeds = Refreshes ∷ []; part = rounds_none is_quiet (MayGoOn a.system.store) (given_now a); runs = runs; works = inl same }
+  pub settle_begun : (a b : Run D M) → RunsBy h (Refreshes ∷ []) a b → b ≡ refreshed a → IsDoneBy h (RoundsTo is_quiet (MayGoOn a.system.store)) a b
+  settle_begun a b runs is = record {
+    deeds = Refreshes ∷ [];
+    part = rounds_none is_quiet (MayGoOn a.system.store) (given_now a);
+    runs = runs;
+    grows = subst (λ (s : Run D M). GrowsBy h (Refreshes ∷ []) a s) (sym is) (refresh_grows h a);
+    works = inl (ap (λ (s : Run D M). s.system.store) is);
+  }
 
   module _ (a b c : Run D M) (opened : b.system.store.opened ≡ a.system.store.opened) (first : IsDoneBy h (RoundsTo is_quiet (MayGoOn a.system.store)) a b) where
     abbrev may_at_first : List Entry → ℕ → Type 0
@@ -328,15 +390,20 @@ module _ {D M : Type 0} (h : drive.Ghosts M) where
     abbrev Rounds : Given → List Deed → Type 0
     Rounds = RoundsTo is_quiet may_at_first
 
-    module _ (quiet : Bool) (round : IsDoneBy h (IsRoundOf (MayGoOn b.system.store) quiet) b c) where
-      round_now : IsDoneBy h (IsRoundOf may_at_first quiet) b c
-      round_now = done_since h Rounds a b first opened (λ may. IsRoundOf may quiet) c round
+    module _ (quiet : Bool) (round : IsDoneBy h (IsRoundTo (MayGoOn b.system.store) b c quiet) b c) where
+      round_now : IsDoneBy h (IsRoundTo may_at_first b c quiet) b c
+      round_now = done_since h Rounds a b first opened (λ may. IsRoundTo may b c quiet) c round
 
       pub settle_on : quiet ≡ false → IsDoneBy h Rounds a c
-      settle_on loud = done_then h Rounds (IsRoundOf may_at_first quiet) Rounds a b c (λ deeds more so is. rounds_on is_quiet may_at_first (given_now a) deeds so more is.0 (is.1 ∙ loud)) first round_now
+      settle_on loud = done_then h Rounds (IsRoundTo may_at_first b c quiet) Rounds a b c (λ deeds more so is. rounds_on is_quiet may_at_first (given_now a) deeds so more is.0.0 (is.0.1 ∙ loud)) first round_now
 
-      pub settle_done : quiet ≡ true → IsDoneBy h (IsSettle is_quiet may_at_first) a c
-      settle_done calm = done_then h Rounds (IsRoundOf may_at_first quiet) (IsSettle is_quiet may_at_first) a b c (λ deeds more so is. rounds_settle is_quiet may_at_first (given_now a) deeds so more is.0 (is.1 ∙ calm)) first round_now
+      -- the last deeds are those of the turns in which it has come to rest
+      abbrev pub IsSettleMarked : Given → List Deed → Type 0
+      IsSettleMarked given deeds = IsSettle is_quiet may_at_first given deeds × EndsMarked b c deeds
+
+      pub settle_done : quiet ≡ true → IsDoneBy h IsSettleMarked a c
+      settle_done calm = done_then h Rounds (IsRoundTo may_at_first b c quiet) IsSettleMarked a b c
+          (λ deeds more so is. (rounds_settle is_quiet may_at_first (given_now a) deeds so more is.0.0 (is.0.1 ∙ calm), ends_behind b c deeds more (is.1 calm))) first round_now
 
     pub settle_stopped : (why : Stop) → IsStoppedBy h (IsRoundCut is_quiet (MayGoOn b.system.store)) why b c → IsStoppedBy h (IsSettleCut is_quiet may_at_first) why a c
     settle_stopped why cut = stopped_then h Rounds (IsRoundCut is_quiet may_at_first) (IsSettleCut is_quiet may_at_first) why a b c (λ ending deeds last so is. rounds_cut is_quiet may_at_first (given_now a) deeds so last ending is)

@@ -50,14 +50,16 @@ use Rattle.hsm_replay.specs.Acts.{Performs, Stops, CopiesTo, FetchesFrom}
 use Rattle.hsm_replay.specs.Deeds.{given_now, IsPayload, BearOut, IsSo, AreSo, DriveGoes, DrivesGo, IsLeft}
 use Rattle.hsm_replay.specs.Deeds.{counts_of, RunsBy, WorksOn, IsDoneBy, IsStopOf, IsStoppedBy, ByDeeds}
 use Rattle.hsm_replay.specs.Drives.{HaveGrown}
+use Rattle.hsm_replay.specs.Keeping.{GrowsBy, Ends}
 use Rattle.hsm_replay.specs.Parts.{IsStep, IsStepFrom}
 use Rattle.hsm_replay.specs.Steps.{Steps, Halts}
 use Rattle.hsm_replay.specs.Stopped.{Ending, Broken, Lost, Unmade, IsOnDrive, IsStepCut, IsStepCutFrom, IsActCut}
 use Rattle.hsm_replay.specs.Systems.{Run, drive_of}
-use Rattle.hsm_replay.proofs.Deeds.{counts_grow, payload_still, runs_still, done_none}
+use Rattle.hsm_replay.proofs.Deeds.{counts_grow, payload_still, runs_still, ends_still, done_none}
 use Rattle.hsm_replay.proofs.Fetching.{heard_of_fetch, set_there}
 use Rattle.hsm_replay.proofs.Filling.{full_of_copy}
 use Rattle.hsm_replay.proofs.Growing.{have_grown_itself, grown_at, reads_grow, grows_grow}
+use Rattle.hsm_replay.proofs.Moves.{moved_store, act_grows, call_ends}
 use Rattle.hsm_replay.proofs.OnDrives.{copy_so, fetch_so}
 use Rattle.hsm_replay.proofs.Sealing.{heard_of_copy}
 
@@ -80,10 +82,6 @@ module _ {D : Type 0} where
   moved_runs : (daemon : Daemon) (old : System D) (asked : Act) (moved : System D) → MovesOn daemon old asked moved → IsDown daemon old → ⊥
   moved_runs Recall old asked moved moves down = let wrong : Some moves.0 ≡ None = sym moves.3 ∙ down in cc wrong
   moved_runs Migrate old asked moved moves down = let wrong : Some moves.0 ≡ None = sym moves.3 ∙ down in cc wrong
-
-  moved_store : (daemon : Daemon) (old : System D) (asked : Act) (moved : System D) → MovesOn daemon old asked moved → moved.store ≡ old.store
-  moved_store Recall old asked moved moves = ap (λ (s : System D). s.store) moves.6
-  moved_store Migrate old asked moved moves = ap (λ (s : System D). s.store) moves.6
 
   -- a copy is of one segment, and migration's
   copy_short : (daemon : Daemon) (old : System D) (volume : ℕ) (handle : Handle) (segment : ℕ) (bytes : List ℕ) (moved : System D) → MovesOn daemon old (Copy volume handle segment bytes) moved → length bytes ≤ segment_bytes
@@ -175,6 +173,7 @@ module _ {D M : Type 0} (g : disk.Ghosts D) (h : drive.Ghosts M) (law : h.sure �
       pub told : Heard
       pub fits : Fits asked told
       pub runs : RunsBy h (Gives daemon asked ∷ Hears daemon asked told ∷ []) old new
+      pub grows : GrowsBy h (Gives daemon asked ∷ Hears daemon asked told ∷ []) old new
       pub works : WorksOn h old.system.store new.system.store
 
     left_store : (told : Heard) (s : System D) → new.system ≡ hearing daemon told s → new.system.store ≡ s.store
@@ -207,6 +206,7 @@ module _ {D M : Type 0} (g : disk.Ghosts D) (h : drive.Ghosts M) (law : h.sure �
         told = told;
         fits = (serves.served stop.Disk, serves.served stop.Memory);
         runs = runs_still h (Gives daemon asked ∷ Hears daemon asked told ∷ []) old new goes (ap (λ (s : Run D M). s.drives) performs.1) (λ ds. (none_so asked moved moves new ds (Hears daemon asked told) tt, (ds, refl, (ds, refl, refl)))) refl;
+        grows = act_grows g h old daemon asked moved moves new performs;
         works = inr (still_works asked moved moves new left.store (left_store asked moved moves new told left performs.0.3) (worked, serves.still));
       }
   taken (Copy volume handle segment bytes) moved moves new performs =
@@ -224,6 +224,7 @@ module _ {D M : Type 0} (g : disk.Ghosts D) (h : drive.Ghosts M) (law : h.sure �
             (subst (λ (ds : List M). HaveGrown h old.drives ds) (sym on.4) grown)
             (none_so asked moved moves new new.drives (Hears daemon asked (heard.Copied performs.0)) (subst (λ (ds : List M). BearOut h ds asked (heard.Copied performs.0)) (sym on.4) bears))
             (old.drives, refl, (new.drives, on, refl)) refl;
+        grows = act_grows g h old daemon asked moved moves new performs;
         works = outside_works asked moved moves new came refl so performs.2;
       }
   taken (Fetch entry) moved moves new performs =
@@ -245,6 +246,7 @@ module _ {D M : Type 0} (g : disk.Ghosts D) (h : drive.Ghosts M) (law : h.sure �
           so = none_so asked moved moves new new.drives (Hears daemon asked (heard.Fetched performs.0)) (subst (λ (ds : List M). BearOut h ds asked (heard.Fetched performs.0)) (sym on.4) (fetch_bears h old.drives entry on.0 on.1 on.2 performs.0 on.3 grown));
           faults = subst (λ (ds : List M). AddsFaults (length old.drives) deeds (counts_of h old.drives) (counts_of h ds)) (sym on.4) faults;
         };
+        grows = act_grows g h old daemon asked moved moves new performs;
         works = outside_works asked moved moves new came refl so performs.2;
       }
   taken Idle moved moves new performs =
@@ -253,6 +255,7 @@ module _ {D M : Type 0} (g : disk.Ghosts D) (h : drive.Ghosts M) (law : h.sure �
         told = heard.Nothing;
         fits = tt;
         runs = runs_still h (Gives daemon Idle ∷ Hears daemon Idle heard.Nothing ∷ []) old new (outside_goes Idle moved moves new outcome.Rested refl tt is) (ap (λ (s : Run D M). s.drives) performs) (λ ds. (none_so Idle moved moves new ds (Hears daemon Idle heard.Nothing) tt, (ds, refl, (ds, refl, refl)))) refl;
+        grows = act_grows g h old daemon Idle moved moves new performs;
         works = outside_works Idle moved moves new outcome.Rested refl tt is;
       }
 
@@ -260,53 +263,49 @@ module _ {D M : Type 0} (g : disk.Ghosts D) (h : drive.Ghosts M) (law : h.sure �
 
   -- what was done of it
   abbrev IsCutShort : Stop → Run D M → Type 0
-  IsCutShort why new = (ending : Ending) × (deeds : List Deed) × IsActCut daemon ending deeds × RunsBy h deeds old new × IsStopOf h why ending old.system.store new.system.store
+  IsCutShort why new = (ending : Ending) × (deeds : List Deed) × IsActCut daemon ending deeds × RunsBy h deeds old new × Ends h deeds old new × IsStopOf h why ending old.system.store new.system.store
 
   module _ (asked : Act) (moved : System D) (moves : MovesOn daemon old.system asked moved) (new : Run D M) where
     -- what it was to hear is lost, and its drive was left
     lost_runs : Goes (Loses daemon ∷ []) moved new.system → HaveGrown h old.drives new.drives → DriveGoes h (Loses daemon) old.drives new.drives → RunsBy h (Gives daemon asked ∷ Loses daemon ∷ []) old new
     lost_runs goes grown left = runs_used (Gives daemon asked ∷ Loses daemon ∷ []) new (behind asked moved moves new (Loses daemon) goes) grown (none_so asked moved moves new new.drives (Loses daemon) tt) (old.drives, refl, (new.drives, left, refl)) refl
 
+    -- so the run was stopped
+    lost : (why : Stop) (ending : Ending) → IsActCut daemon ending (Gives daemon asked ∷ Loses daemon ∷ []) → RunsBy h (Gives daemon asked ∷ Loses daemon ∷ []) old new → IsStopOf h why ending old.system.store new.system.store → IsCutShort why new
+    lost why ending cut runs stops = (ending, Gives daemon asked ∷ Loses daemon ∷ [], cut, runs, ends_still h (Gives daemon asked ∷ Loses daemon ∷ []) old new refl refl runs, stops)
+
     -- for want of memory, by a copy or a fetch
     lacked : (why : Stop) → IsOnDrive asked → why ≡ stop.Memory → new.system ≡ hearing daemon heard.Nothing moved → HaveGrown h old.drives new.drives → DriveGoes h (Loses daemon) old.drives new.drives → IsCutShort why new
     lacked why on is left grown alike =
         let same : new.system.store ≡ old.system.store = left_store asked moved moves new heard.Nothing moved left ∙ moved_store daemon old.system asked moved moves in
-        let stops : IsStopOf h stop.Memory Lost old.system.store new.system.store = inl same in (
-          Lost,
-          Gives daemon asked ∷ Loses daemon ∷ [],
-          inr (asked, on, refl),
-          lost_runs (loses_goes daemon moved new.system moved.store left refl (awaits_runs daemon asked moved (awaits asked moved moves new))) grown alike,
-          subst (λ (w : Stop). IsStopOf h w Lost old.system.store new.system.store) (sym is) stops,
-        )
+        let stops : IsStopOf h stop.Memory Lost old.system.store new.system.store = inl same in
+        lost why Lost (inr (asked, on, refl)) (lost_runs (loses_goes daemon moved new.system moved.store left refl (awaits_runs daemon asked moved (awaits asked moved moves new))) grown alike)
+        (subst (λ (w : Stop). IsStopOf h w Lost old.system.store new.system.store) (sym is) stops)
 
-  call_cut : (sid : Sid) (call : DmCall) (moved : System D) (moves : MovesOn daemon old.system (Dm sid call) moved) (why : Stop) (new : Run D M) → new.drives ≡ old.drives → EndsIn daemon sid call why moved new.system → IsCutShort why new
-  call_cut sid call moved moves stop.Disk new same (inl broke) =
+  call_cut : (sid : Sid) (call : DmCall) (moved : System D) (moves : MovesOn daemon old.system (Dm sid call) moved) (why : Stop) (new : Run D M) → Stops g h daemon (record old { system = moved }) (Dm sid call) why new → EndsIn daemon sid call why moved new.system → IsCutShort why new
+  call_cut sid call moved moves stop.Disk new stops (inl broke) =
       let asked : Act = Dm sid call in
-      let deeds : List Deed = Gives daemon asked ∷ Breaks daemon sid call ∷ [] in (
+      let deeds : List Deed = Gives daemon asked ∷ Breaks daemon sid call ∷ [] in
+      let runs : RunsBy h deeds old new = runs_still h deeds old new (behind asked moved moves new (Breaks daemon sid call) broke.0) (ap (λ (s : Run D M). s.drives) stops.1) (λ ds. (none_so asked moved moves new ds (Breaks daemon sid call) tt, (ds, refl, (ds, refl, refl)))) refl in (
         Broken,
         deeds,
         (sid, call, refl),
-        runs_still h deeds old new (behind asked moved moves new (Breaks daemon sid call) broke.0) same (λ ds. (none_so asked moved moves new ds (Breaks daemon sid call) tt, (ds, refl, (ds, refl, refl)))) refl,
+        runs,
+        call_ends g h old daemon sid call moved moves stop.Disk new stops runs.goes.leads.entries,
         subst (λ (s : Store D). HasClosed s new.system.store) (moved_store daemon old.system asked moved moves) broke.1,
       )
-  call_cut sid call moved moves stop.Disk new same (inr closed) = (
-    Unmade,
-    Gives daemon (Dm sid call) ∷ Loses daemon ∷ [],
-    (sid, call, refl),
-    lost_runs (Dm sid call) moved moves new closed.0 (still_grown new same) (inl same),
-    subst (λ (s : Store D). WasClosed s new.system.store) (moved_store daemon old.system (Dm sid call) moved moves) closed.1,
-  )
-  call_cut sid call moved moves stop.Memory new same ended = (
-    Unmade,
-    Gives daemon (Dm sid call) ∷ Loses daemon ∷ [],
-    (sid, call, refl),
-    lost_runs (Dm sid call) moved moves new ended.0 (still_grown new same) (inl same),
-    subst (λ (s : Store D). StillWorks s new.system.store) (moved_store daemon old.system (Dm sid call) moved moves) ended.1,
-  )
+  call_cut sid call moved moves stop.Disk new stops (inr closed) =
+      let same : new.drives ≡ old.drives = ap (λ (s : Run D M). s.drives) stops.1 in
+      lost (Dm sid call) moved moves new stop.Disk Unmade (sid, call, refl) (lost_runs (Dm sid call) moved moves new closed.0 (still_grown new same) (inl same))
+      (subst (λ (s : Store D). WasClosed s new.system.store) (moved_store daemon old.system (Dm sid call) moved moves) closed.1)
+  call_cut sid call moved moves stop.Memory new stops ended =
+      let same : new.drives ≡ old.drives = ap (λ (s : Run D M). s.drives) stops.1 in
+      lost (Dm sid call) moved moves new stop.Memory Unmade (sid, call, refl) (lost_runs (Dm sid call) moved moves new ended.0 (still_grown new same) (inl same))
+      (subst (λ (s : Store D). StillWorks s new.system.store) (moved_store daemon old.system (Dm sid call) moved moves) ended.1)
 
   cut_short : (asked : Act) (moved : System D) (moves : MovesOn daemon old.system asked moved) (why : Stop) (new : Run D M) → Stops g h daemon (record old { system = moved }) asked why new → IsCutShort why new
   cut_short (Dm sid call) moved moves why new stops =
-      call_cut sid call moved moves why new (ap (λ (s : Run D M). s.drives) stops.1) (stops_goes g daemon sid call moved new.system (awaits (Dm sid call) moved moves new) why stops.0)
+      call_cut sid call moved moves why new stops (stops_goes g daemon sid call moved new.system (awaits (Dm sid call) moved moves new) why stops.0)
   cut_short (Copy volume handle segment bytes) moved moves why new stops =
       let on = stops.2 in
       lacked (Copy volume handle segment bytes) moved moves new why tt stops.0 stops.1
@@ -331,6 +330,7 @@ module _ {D M : Type 0} (g : disk.Ghosts D) (h : drive.Ghosts M) (law : h.sure �
         deeds = Gives daemon acts.act ∷ Hears daemon acts.act is.told ∷ [];
         part = subst (λ (o : Option Act). IsStepFrom daemon o (Gives daemon acts.act ∷ Hears daemon acts.act is.told ∷ [])) (sym last.1) (record { asked = acts.act; told = is.told }, is.fits, refl);
         runs = is.runs;
+        grows = is.grows;
         works = is.works;
       }
 
@@ -338,16 +338,18 @@ module _ {D M : Type 0} (g : disk.Ghosts D) (h : drive.Ghosts M) (law : h.sure �
   stopped_of : (why : Stop) (new : Run D M) → (IsDown daemon old.system → ⊥) → IsCutShort why new → IsStoppedBy h (IsStepCut daemon) why old new
   stopped_of why new runs is =
       let last = runs_given daemon old runs in
-      record { ending = is.0; deeds = is.1; cut = subst (λ (o : Option Act). IsStepCutFrom daemon o is.0 is.1) (sym last.1) is.2; runs = is.3; stops = is.4 }
+      record { ending = is.0; deeds = is.1; cut = subst (λ (o : Option Act). IsStepCutFrom daemon o is.0 is.1) (sym last.1) is.2; runs = is.3; ends = is.4; stops = is.5 }
 
   step_stopped : (why : Stop) (new : Run D M) → Halts g h daemon old why new → IsStoppedBy h (IsStepCut daemon) why old new
   step_stopped why new (inl lacks) =
       let same : new.system.store ≡ old.system.store = ap (λ (s : System D). s.store) lacks.0.loses ∙ heard_store daemon heard.Nothing old.system in
+      let runs : RunsBy h (Loses daemon ∷ []) old new = runs_still h (Loses daemon ∷ []) old new (loses_goes daemon old.system new.system old.system.store lacks.0.loses refl lacks.0.runs) (ap (λ (s : Run D M). s.drives) lacks.1) (λ ds. (All-from_recursion (IsSo h ds) (Loses daemon ∷ []) (tt, tt), (ds, inl refl, refl))) refl in
       stopped_of why new lacks.0.runs (
         Lost,
         Loses daemon ∷ [],
         inl refl,
-        runs_still h (Loses daemon ∷ []) old new (loses_goes daemon old.system new.system old.system.store lacks.0.loses refl lacks.0.runs) (ap (λ (s : Run D M). s.drives) lacks.1) (λ ds. (All-from_recursion (IsSo h ds) (Loses daemon ∷ []) (tt, tt), (ds, inl refl, refl))) refl,
+        runs,
+        ends_still h (Loses daemon ∷ []) old new refl refl runs,
         subst (λ (w : Stop). IsStopOf h w Lost old.system.store new.system.store) (sym lacks.0.lacks) (inl same),
       )
   step_stopped why new (inr stopped) = stopped_of why new (moved_runs daemon old.system stopped.act stopped.moved stopped.moves) (cut_short stopped.act stopped.moved stopped.moves why new stopped.stops)

@@ -1,6 +1,6 @@
 -- Deeds that lead on, one list behind the other, and what drives say of what was heard.
 use Rattle.std.proofs.Common.{◌≡◌, ◌∙◌, ◌+◌, ◌≤◌, ◌∷◌, ◌++◌, [], ℕ, zero, suc, true, false, List, length, get_or, drop, Option, Some, None, Ok, Err, inl, inr}
-use Rattle.std.proofs.Common.{refl, sym, ap, ap₂, subst, length-append, arith}
+use Rattle.std.proofs.Common.{refl, sym, ap, ap₂, subst, append_assoc, append-nil, length-append, arith}
 use Rattle.std.specs.Option.{option_map}
 use Rattle.std.proofs.lemmas.List.{get_or_append_left}
 use Rattle.std.proofs.lemmas.List.Elements.{All-append, All-from_recursion, All-nil, All-weaker}
@@ -15,7 +15,8 @@ use Rattle.hsm_types.specs.declared.daemons.Heard.TheVariants as heard
 use Rattle.hsm_types.specs.declared.media.FetchRefusal.TheVariants as fetching
 use Rattle.hsm_types.specs.declared.stubs.StubEntry.{StubEntry}
 use Rattle.hsm_core.specs.Store.{Store}
-use Rattle.deeds.specs.Deeds.{Deed, Starts, Kills, Refreshes, Hears}
+use Rattle.plain_model.specs.declared.entries.Entry.{Entry}
+use Rattle.deeds.specs.Deeds.{Deed, Starts, Kills, Refreshes, Hears, entries_of}
 use Rattle.deeds.specs.Faults.{AddsFaults, faults_heard}
 use Rattle.deeds.specs.Given.{Given, given_behind, asked_in, given_in}
 use Rattle.deeds.specs.Lives.{Workings}
@@ -30,10 +31,15 @@ use Rattle.hsm_system.specs.declared.stops.Stop.TheVariants as stop
 use Rattle.hsm_system.proofs.Leading.{goes_itself, goes_then}
 use Rattle.hsm_replay.specs.Deeds.{given_now, IsPayload, BearOut, IsSo, AreSo, DrivesGo, counts_of, RunsBy, WorksOn, IsDoneBy, IsStopOf, IsStoppedBy}
 use Rattle.hsm_replay.specs.Drives.{HaveGrown}
+use Rattle.hsm_replay.specs.Keeping.{IsMarked, Shows, GrowsBy, Ends}
+use Rattle.hsm_replay.specs.Marking.{marks_of}
 use Rattle.hsm_replay.specs.Stopped.{Ending, Broken, Lost, Unmade}
 use Rattle.hsm_replay.specs.Systems.{Run}
 use Rattle.hsm_replay.proofs.Filling.{hears_grows}
 use Rattle.hsm_replay.proofs.Growing.{have_grown_itself, have_grown_on, grown_count, still_true}
+use Rattle.hsm_replay.proofs.Marked.{marked_still}
+use Rattle.hsm_replay.proofs.Marking.{marks_then}
+use Rattle.marked_history.specs.Marks.{Mark}
 use Rattle.hsm_replay.proofs.Sealing.{gave, stored_still, there_still}
 
 -- ---- what was given last
@@ -84,6 +90,9 @@ module _ {M : Type 0} (g : drive.Ghosts M) where
   counts_grow (d ∷ ds) (e ∷ es) grown zero = grown.0.faults
   counts_grow (d ∷ ds) (e ∷ es) grown (suc number) = counts_grow ds es grown.1 number
 
+  and_then : (marks : List Mark) (deeds more : List Deed) → (marks ++ marks_of deeds) ++ marks_of more ≡ marks ++ marks_of (deeds ++ more)
+  and_then marks deeds more = append_assoc marks (marks_of deeds) (marks_of more) ∙ ap (λ (ms : List Mark). marks ++ ms) (sym (marks_then deeds more))
+
   module _ {D : Type 0} where
     -- ---- deeds that lead on
 
@@ -125,11 +134,28 @@ module _ {M : Type 0} (g : drive.Ghosts M) where
     stops_then stop.Memory Unmade a b c (inr works) stops = (works.0, stops.1)
     stops_then stop.Memory Lost a b c (inr works) stops = works_then a b c (inr works) stops
 
+    -- ---- what marked histories show
+
+    pub grows_none : (s : Run D M) → GrowsBy g [] s s
+    grows_none s opened marks shows = subst (λ (ms : List Mark). Shows g opened ms s) (sym (append-nil marks)) shows
+
+    grows_then : (deeds more : List Deed) (a b c : Run D M) → GrowsBy g deeds a b → GrowsBy g more b c → GrowsBy g (deeds ++ more) a c
+    grows_then deeds more a b c first then opened marks shows = subst (λ (ms : List Mark). Shows g opened ms c) (and_then marks deeds more) (then opened (marks ++ marks_of deeds) (first opened marks shows))
+
+    ends_then : (deeds more : List Deed) (a b c : Run D M) → GrowsBy g deeds a b → Ends g more b c → Ends g (deeds ++ more) a c
+    ends_then deeds more a b c first then opened marks shows = subst (λ (ms : List Mark). IsMarked g opened ms c) (and_then marks deeds more) (then opened (marks ++ marks_of deeds) (first opened marks shows))
+
+    -- deeds without an entry
+    pub ends_still : (deeds : List Deed) (old new : Run D M) → marks_of deeds ≡ [] → entries_of deeds ≡ [] → RunsBy g deeds old new → Ends g deeds old new
+    ends_still deeds old new unmarked none runs opened marks shows =
+        let same : new.system.store.history ≡ old.system.store.history = runs.goes.leads.entries ∙ ap (λ (es : List Entry). old.system.store.history ++ es) none ∙ append-nil old.system.store.history in
+        subst (λ (ms : List Mark). IsMarked g opened (marks ++ ms) new) (sym unmarked) (marked_still g opened marks old new shows.marked runs.goes.limits same runs.grown)
+
     -- ---- what one call does
 
     -- nothing
     pub done_none : (IsPart : Given → List Deed → Type 0) (s : Run D M) → IsPart (given_now s) [] → IsDoneBy g IsPart s s
-    done_none IsPart s part = record { deeds = []; part = part; runs = runs_none s; works = inl refl }
+    done_none IsPart s part = record { deeds = []; part = part; runs = runs_none s; grows = grows_none s; works = inl refl }
 
     -- one call behind another
     pub done_then : (IsFirst IsNext IsBoth : Given → List Deed → Type 0) (a b c : Run D M)
@@ -139,6 +165,7 @@ module _ {M : Type 0} (g : drive.Ghosts M) where
       deeds = first.deeds ++ then.deeds;
       part = join first.deeds then.deeds first.part (subst (λ (given : Given). IsNext given then.deeds) (given_runs first.deeds a b first.runs) then.part);
       runs = runs_then first.deeds then.deeds a b c first.runs then.runs;
+      grows = grows_then first.deeds then.deeds a b c first.grows then.grows;
       works = works_then a.system.store b.system.store c.system.store first.works then.works;
     }
 
@@ -151,19 +178,23 @@ module _ {M : Type 0} (g : drive.Ghosts M) where
       deeds = first.deeds ++ then.deeds;
       cut = join then.ending first.deeds then.deeds first.part (subst (λ (given : Given). IsCut given then.ending then.deeds) (given_runs first.deeds a b first.runs) then.cut);
       runs = runs_then first.deeds then.deeds a b c first.runs then.runs;
+      ends = ends_then first.deeds then.deeds a b c first.grows then.ends;
       stops = stops_then why then.ending a.system.store b.system.store c.system.store first.works then.stops;
     }
 
     -- the same deeds are of another kind, too
+    pub done_so : (IsPart IsOther : Given → List Deed → Type 0) (a b : Run D M) (done : IsDoneBy g IsPart a b) → IsOther (given_now a) done.deeds → IsDoneBy g IsOther a b
+    done_so IsPart IsOther a b done is = record { deeds = done.deeds; part = is; runs = done.runs; grows = done.grows; works = done.works }
+
     pub done_as : (IsPart IsOther : Given → List Deed → Type 0) (a b : Run D M) → ((deeds : List Deed) → IsPart (given_now a) deeds → IsOther (given_now a) deeds) → IsDoneBy g IsPart a b → IsDoneBy g IsOther a b
-    done_as IsPart IsOther a b alike done = record { deeds = done.deeds; part = alike done.deeds done.part; runs = done.runs; works = done.works }
+    done_as IsPart IsOther a b alike done = done_so IsPart IsOther a b done (alike done.deeds done.part)
 
     pub stopped_as : (IsCut IsOther : Given → Ending → List Deed → Type 0) (why : Stop) (a b : Run D M) → ((ending : Ending) (deeds : List Deed) → IsCut (given_now a) ending deeds → IsOther (given_now a) ending deeds) → IsStoppedBy g IsCut why a b → IsStoppedBy g IsOther why a b
-    stopped_as IsCut IsOther why a b alike stopped = record { ending = stopped.ending; deeds = stopped.deeds; cut = alike stopped.ending stopped.deeds stopped.cut; runs = stopped.runs; stops = stopped.stops }
+    stopped_as IsCut IsOther why a b alike stopped = record { ending = stopped.ending; deeds = stopped.deeds; cut = alike stopped.ending stopped.deeds stopped.cut; runs = stopped.runs; ends = stopped.ends; stops = stopped.stops }
 
     -- what is so of what was given last behind them
     pub done_to : (IsPart : Given → List Deed → Type 0) (IsLeft : Given → Type 0) (a b : Run D M) → IsLeft (given_now b) → IsDoneBy g IsPart a b → IsDoneBy g (λ given deeds. IsPart given deeds × IsLeft (given_behind deeds given)) a b
-    done_to IsPart IsLeft a b is done = record { deeds = done.deeds; part = (done.part, subst IsLeft (given_runs done.deeds a b done.runs) is); runs = done.runs; works = done.works }
+    done_to IsPart IsLeft a b is done = done_so IsPart (λ given deeds. IsPart given deeds × IsLeft (given_behind deeds given)) a b done (done.part, subst IsLeft (given_runs done.deeds a b done.runs) is)
 
 -- ---- starts, kills, refreshes
 

@@ -1,5 +1,5 @@
 -- What an event of a line comes to.
-use Rattle.std.proofs.Common.{◌≡◌, ◌≢◌, ◌∙◌, ◌⊎◌, ◌∷◌, ◌++◌, [], ℕ, List, Option, Some, None, IfSome, Result, Ok, Err, OnOk, inl, inr, refl, sym, ap}
+use Rattle.std.proofs.Common.{◌≡◌, ◌≢◌, ◌∙◌, ◌∷◌, ◌++◌, [], ℕ, List, Option, Some, None, IfSome, Result, Ok, Err, OnOk, inr, refl, sym, ap}
 use Rattle.std.proofs.Common.{subst}
 use Rattle.disk_model.specs.declared.device.Disk as disk
 use Rattle.media_model.specs.declared.drive.Drive as drive
@@ -18,20 +18,18 @@ use Rattle.hsm_core.specs.Answers.{entry_of}
 use Rattle.hsm_core.specs.Store.{Store}
 use Rattle.marked_history.specs.Marks.{Mark, no_daemons}
 use Rattle.marked_history.specs.Served.{Shown, shown, nothing_shown, NamesNoFault}
-use Rattle.marked_history.specs.Settling.{AreByRunning}
 use Rattle.deeds.specs.Deeds as deeds
-use Rattle.hsm_system.specs.Events.{Runs, IsDone, actor_of, action_of}
+use Rattle.deeds.specs.Deeds.{Enters}
+use Rattle.hsm_system.specs.Events.{IsDone, actor_of, action_of}
 use Rattle.hsm_system.specs.Systems.{System}
 use Rattle.hsm_system.specs.declared.events.Event.{Event as Made}
 use Rattle.hsm_system.specs.declared.stops.Stop.{Stop}
-use Rattle.hsm_system.proofs.AfterEvents.{event_kept_or_not}
 use Rattle.hsm_replay.specs.Doing.{Does}
 use Rattle.hsm_replay.specs.Faults.{fault_in, faults_in, AreTrue}
-use Rattle.hsm_replay.specs.Keeping.{RecallKnows, MigrateKnows, IsMarked, Shows, Moves}
-use Rattle.hsm_replay.specs.Systems.{Run, running}
+use Rattle.hsm_replay.specs.Keeping.{RecallKnows, MigrateKnows, IsMarked, Shows, GrowsBy, Ends}
+use Rattle.hsm_replay.specs.Systems.{Run}
 use Rattle.hsm_replay.specs.Turns.{MayResume}
-use Rattle.hsm_replay.proofs.Growing.{have_grown_itself}
-use Rattle.hsm_replay.proofs.Marked.{shown_more, marked_more, marked_still, no_fault_more}
+use Rattle.hsm_replay.proofs.Marked.{shown_more, marked_more, no_fault_more}
 use Rattle.hsm_replay.proofs.Sealing.{tallies_by_other, lost_more_if}
 
 -- ---- entries
@@ -74,11 +72,7 @@ pub made_by : {D : Type 0} (g : disk.Ghosts D) (event : Made) (actor : Actor) (a
 made_by g event actor action who what result old new done =
     subst (λ (a : Actor). IsDone g a action result old new) who (subst (λ (x : Action). IsDone g (actor_of event) x result old new) what done)
 
--- the entry of that event, whatever it was answered
-abbrev pub IsEventOf : Actor → Action → List Mark → Type 0
-IsEventOf actor action marks = (answer : Answer) × (marks ≡ no_daemons (entry_of actor action answer) ∷ [])
-
-module _ {D M : Type 0} (g : disk.Ghosts D) (h : drive.Ghosts M) (old : Run D M) (store : Store D) (actor : Actor) (action : Action) (given : Answer) (none : NamesNoFault action) where
+module _ {D M : Type 0} (h : drive.Ghosts M) (old : Run D M) (store : Store D) (actor : Actor) (action : Action) (given : Answer) (none : NamesNoFault action) where
   abbrev pub after : Run D M
   after = record old { system = record old.system { store = store } }
 
@@ -95,7 +89,7 @@ module _ {D M : Type 0} (g : disk.Ghosts D) (h : drive.Ghosts M) (old : Run D M)
     marked : IsMarked h opened (marks ++ mark ∷ []) after
     marked = marked_more h opened marks mark old after shows.marked refl kept none (subst (λ (fs : List Fault). AreTrue h old.drives fs) (sym same_faults) shows.marked.faults) (tallies_by_other h opened old.drives old.system.limits marks shows.marked.sealed mark not_recall tt)
 
-    shows_on : Shows h opened (marks ++ mark ∷ []) after
+    pub shows_on : Shows h opened (marks ++ mark ∷ []) after
     shows_on = record {
       marked = marked;
       recall = subst (λ (fs : List Fault). IfSome old.system.recall (RecallKnows h (shown old.system.limits nothing_shown (marks ++ mark ∷ [])).recall old.drives fs)) (sym same_faults)
@@ -105,36 +99,19 @@ module _ {D M : Type 0} (g : disk.Ghosts D) (h : drive.Ghosts M) (old : Run D M)
       stored = shows.stored;
     }
 
-  ended : (opened : List M) (marks : List Mark) → Shows h opened marks old → (store.history ≡ old.system.store.history) ⊎ (store.history ≡ old.system.store.history ++ entry_of actor action given ∷ []) → (more : List Mark) × (IsEventOf actor action more ⊎ (more ≡ [])) × IsMarked h opened (marks ++ more) after × AreByRunning (running old) more
-  ended opened marks shows (inl same) = ([], inr refl, marked_still h opened marks old after shows.marked refl same (have_grown_itself h old.drives), tt)
-  ended opened marks shows (inr kept) = (mark ∷ [], inl (given, refl), marked opened marks shows kept, (tt, tt))
+-- what marked histories show goes on with the entry of an event
+module _ {D M : Type 0} (h : drive.Ghosts M) (old new : Run D M) (leaves : new ≡ record old { system = record old.system { store = new.system.store } }) (actor : Actor) (action : Action) (given : Answer) (none : NamesNoFault action) (kept : new.system.store.history ≡ old.system.store.history ++ entry_of actor action given ∷ []) where
+  pub entered_grows : GrowsBy h (Enters (entry_of actor action given) ∷ []) old new
+  entered_grows = subst (λ (s : Run D M). GrowsBy h (Enters (entry_of actor action given) ∷ []) old s) (sym leaves) (λ opened marks shows. shows_on h old new.system.store actor action given none opened marks shows kept)
 
-  moves_by : (result : Result (Unit {0}) Stop) → Runs g result old.system.store store → OnOk result (store.history ≡ old.system.store.history ++ entry_of actor action given ∷ []) → (store.history ≡ old.system.store.history) ⊎ (store.history ≡ old.system.store.history ++ entry_of actor action given ∷ []) → Moves g h (IsEventOf actor action) result old after
-  moves_by (Ok tt) runs kept may = record {
-    limits = refl;
-    drives = have_grown_itself h old.drives;
-    runs = runs;
-    keeps = λ opened marks shows. (mark ∷ [], (given, refl), shows_on opened marks shows kept, (tt, tt));
-    ends = tt;
-  }
-  moves_by (Err why) runs kept may = record {
-    limits = refl;
-    drives = have_grown_itself h old.drives;
-    runs = runs;
-    keeps = tt;
-    ends = λ opened marks shows. ended opened marks shows may;
-  }
+  pub entered_ends : Ends h (Enters (entry_of actor action given) ∷ []) old new
+  entered_ends opened marks shows = (entered_grows opened marks shows).marked
 
 -- ---- an event that was made
 
 module _ {D M : Type 0} (g : disk.Ghosts D) (h : drive.Ghosts M) (old new : Run D M) (actor : Actor) (action : Action) (result : Result (Unit {0}) Stop) (done : IsDone g actor action result old.system new.system) (rest : new ≡ record old { system = new.system }) where
   pub event_leaves : new ≡ record old { system = record old.system { store = new.system.store } }
   event_leaves = rest ∙ ap (λ (s : System D). record old { system = s }) done.rest
-
-  pub event_moves : NamesNoFault action → Moves g h (IsEventOf actor action) result old new
-  event_moves none =
-      let may = event_kept_or_not g old.system.store actor action done.given new.system.store done.answer in
-      subst (λ (s : Run D M). Moves g h (IsEventOf actor action) result old s) (sym event_leaves) (moves_by g h old new.system.store actor action done.given none result done.runs done.kept may)
 
   pub event_does : (seed : Option ℕ) → Does g h (Event actor action seed) result old new
   event_does seed = (done.given, done.answer, event_leaves, done.kept)

@@ -1,4 +1,6 @@
 mod Telling
+pub mod Marking
+pub mod MarkKinds
 pub mod PartsDone
 mod PartsOn
 mod Resuming
@@ -29,7 +31,6 @@ mod Working
 mod Beginning
 mod Refusals
 mod Kept
-pub mod ByRunning
 mod HeldUp
 mod Due
 mod Freshness

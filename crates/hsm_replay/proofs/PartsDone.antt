@@ -1,5 +1,5 @@
 -- What is so of deeds that follow lines: of their entries, and of each of them.
-use Rattle.std.proofs.Common.{◌≡◌, ◌≢◌, ◌∙◌, ℕ, ◌∷◌, ◌++◌, [], map, Bool, true, false, List, Option, Some, None, IfSome, inl, inr, refl, sym, ap, subst}
+use Rattle.std.proofs.Common.{◌≡◌, ◌≢◌, ◌∙◌, ℕ, ◌∷◌, ◌++◌, [], map, Bool, true, false, List, Option, Some, None, is_some, IfSome, inl, inr, refl, sym, ap, subst}
 use Rattle.std.proofs.Common.{append_assoc}
 use Rattle.std.specs.Prelude.{All, flat_map}
 use Rattle.std.specs.List.{cons_option}
@@ -33,59 +33,66 @@ use Rattle.deeds.proofs.Living.{entries_then}
 
 -- ---- each deed of a step and of a settle
 
--- Of such deeds P holds where it holds of acts that were done, of a refresh, and of resumes.
-module _ (quiet : Entry → Bool) (MayGoOn : List Entry → ℕ → Type 0) (P : Deed → Type 0)
-    (acts : (daemon : Daemon) (asked : Act) (told : Heard) → Fits asked told → P (Gives daemon asked) × P (Hears daemon asked told))
-    (refreshes : P Refreshes)
-    (resumes : (caller : ℕ) (told : Answer) → IsCallerNumber caller → StopsNothing told → P (resume_of (caller, told))) where
-  done_all : (daemon : Daemon) (x : Exchange) → Fits x.asked x.told → All P (done_by daemon x)
-  done_all daemon x fits =
-      let both = acts daemon x.asked x.told fits in
+module _ (P : Deed → Type 0) (daemon : Daemon) where
+  -- it holds of acts of the daemon that were done
+  abbrev pub OfActs : Type 0
+  OfActs = (asked : Act) (told : Heard) → Fits asked told → P (Gives daemon asked) × P (Hears daemon asked told)
+
+  pub done_all : OfActs → (x : Exchange) → Fits x.asked x.told → All P (done_by daemon x)
+  done_all acts x fits =
+      let both = acts x.asked x.told fits in
       All-cons P (Gives daemon x.asked) (Hears daemon x.asked x.told ∷ []) both.0 (All-cons P (Hears daemon x.asked x.told) [] both.1 (All-nil P))
 
-  pub step_all : (daemon : Daemon) (asked : Option Act) (deeds : List Deed) → IsStepFrom daemon asked deeds → All P deeds
-  step_all daemon None deeds is = subst (λ (ds : List Deed). All P ds) (sym is) (All-nil P)
-  step_all daemon (Some asked) deeds is = subst (λ (ds : List Deed). All P ds) (sym is.2) (done_all daemon is.0 is.1)
+  pub work_all : OfActs → (work : List Exchange) → All IsWork work → All P (flat_map (done_by daemon) work)
+  work_all acts [] all = All-nil P
+  work_all acts (x ∷ work) all = All-append P (done_by daemon x) (flat_map (done_by daemon) work) (done_all acts x (All-head IsWork x work all).1) (work_all acts work (All-tail IsWork x work all))
 
-  work_all : (daemon : Daemon) (work : List Exchange) → All IsWork work → All P (flat_map (done_by daemon) work)
-  work_all daemon [] all = All-nil P
-  work_all daemon (x ∷ work) all = All-append P (done_by daemon x) (flat_map (done_by daemon) work) (done_all daemon x (All-head IsWork x work all).1) (work_all daemon work (All-tail IsWork x work all))
+  pub rest_all : OfActs → (deeds : List Deed) → IsUpToRest daemon deeds → All P deeds
+  rest_all acts deeds is = subst (λ (ds : List Deed). All P ds) (sym is.2) (All-append P (flat_map (done_by daemon) is.0) (done_by daemon resting) (work_all acts is.0 is.1) (done_all acts resting tt))
 
-  rest_all : (daemon : Daemon) (deeds : List Deed) → IsUpToRest daemon deeds → All P deeds
-  rest_all daemon deeds is = subst (λ (ds : List Deed). All P ds) (sym is.2) (All-append P (flat_map (done_by daemon) is.0) (done_by daemon resting) (work_all daemon is.0 is.1) (done_all daemon resting tt))
+  -- so of a step and of a turn, which one that doesn't run has none of
+  pub step_of : (last : Option Act) → (is_some last ≡ true → OfActs) → (deeds : List Deed) → IsStepFrom daemon last deeds → All P deeds
+  step_of None acts deeds is = subst (λ (ds : List Deed). All P ds) (sym is) (All-nil P)
+  step_of (Some asked) acts deeds is = subst (λ (ds : List Deed). All P ds) (sym is.2) (done_all (acts refl) is.0 is.1)
 
-  turn_all : (daemon : Daemon) (asked : Option Act) (deeds : List Deed) → IsTurnFrom daemon asked deeds → All P deeds
-  turn_all daemon None deeds is = subst (λ (ds : List Deed). All P ds) (sym is) (All-nil P)
-  turn_all daemon (Some Idle) deeds is = rest_all daemon deeds is
-  turn_all daemon (Some asked) deeds is = subst (λ (ds : List Deed). All P ds) (sym is.2) (All-append P is.0 is.1 (rest_all daemon is.0 is.3) (rest_all daemon is.1 is.4))
+  pub turn_of : (last : Option Act) → (is_some last ≡ true → OfActs) → (deeds : List Deed) → IsTurnFrom daemon last deeds → All P deeds
+  turn_of None acts deeds is = subst (λ (ds : List Deed). All P ds) (sym is) (All-nil P)
+  turn_of (Some Idle) acts deeds is = rest_all (acts refl) deeds is
+  turn_of (Some asked) acts deeds is = subst (λ (ds : List Deed). All P ds) (sym is.2) (All-append P is.0 is.1 (rest_all (acts refl) is.0 is.3) (rest_all (acts refl) is.1 is.4))
 
-  turn_if_all : (own : Bool) (daemon : Daemon) (given : Given) (deeds : List Deed) → IsTurnIf own daemon given deeds → All P deeds
-  turn_if_all true daemon given deeds is = turn_all daemon (given_of daemon given) deeds is
-  turn_if_all false daemon given deeds is = subst (λ (ds : List Deed). All P ds) (sym is) (All-nil P)
+  turn_if : (own : Bool) (given : Given) → (is_some (given_of daemon given) ≡ true → OfActs) → (deeds : List Deed) → IsTurnIf own daemon given deeds → All P deeds
+  turn_if true given acts deeds is = turn_of (given_of daemon given) acts deeds is
+  turn_if false given acts deeds is = subst (λ (ds : List Deed). All P ds) (sym is) (All-nil P)
 
+-- Of the deeds of a settle P holds where it holds of acts that were done, of a refresh, and of resumes.
+module _ (quiet : Entry → Bool) (MayGoOn : List Entry → ℕ → Type 0) (P : Deed → Type 0) (resumes : (caller : ℕ) (told : Answer) → IsCallerNumber caller → StopsNothing told → P (resume_of (caller, told))) where
   abbrev IsOne : ℕ × Answer → Type 0
   IsOne x = StopsNothing x.1
 
-  resumes_all : (told : List (ℕ × Answer)) → All IsCallerNumber (keys_of told) → All IsOne told → All P (map resume_of told)
+  pub resumes_all : (told : List (ℕ × Answer)) → All IsCallerNumber (keys_of told) → All IsOne told → All P (map resume_of told)
   resumes_all [] all served = All-nil P
   resumes_all (x ∷ told) all served = All-cons P (resume_of x) (map resume_of told) (resumes x.0 x.1 (All-head IsCallerNumber x.0 (keys_of told) all) (All-head IsOne x told served))
       (resumes_all told (All-tail IsCallerNumber x.0 (keys_of told) all) (All-tail IsOne x told served))
 
-  round_all : (given : Given) (deeds : List Deed) → IsRound quiet MayGoOn given deeds → All P deeds
-  round_all given deeds r = subst (λ (ds : List Deed). All P ds) (sym r.parted) (All-append P r.recalls (r.resumes ++ r.migrates)
-      (turn_all Recall given.recall r.recalls r.recall_turn)
+  pub round_of : (given : Given) → ((daemon : Daemon) → is_some (given_of daemon given) ≡ true → OfActs P daemon) → (deeds : List Deed) → IsRound quiet MayGoOn given deeds → All P deeds
+  round_of given acts deeds r = subst (λ (ds : List Deed). All P ds) (sym r.parted) (All-append P r.recalls (r.resumes ++ r.migrates)
+      (turn_of P Recall given.recall (acts Recall) r.recalls r.recall_turn)
       (All-append P r.resumes r.migrates
       (subst (λ (ds : List Deed). All P ds) (sym r.resumed.parted) (resumes_all r.resumed.told r.resumed.numbers r.resumed.served))
-      (turn_if_all (are_quiet quiet (r.recalls ++ r.resumes)) Migrate given r.migrates r.migrate_turn)))
+      (turn_if P Migrate (are_quiet quiet (r.recalls ++ r.resumes)) given (acts Migrate) r.migrates r.migrate_turn)))
 
-  busy_all : (given : Given) (rounds : List (List Deed)) → AreBusy quiet MayGoOn given rounds → All P (joined rounds)
-  busy_all given [] is = All-nil P
-  busy_all given (round ∷ rounds) is = All-append P round (joined rounds) (round_all given round is.0) (busy_all (given_behind round given) rounds is.2)
+  module _ (refreshes : P Refreshes) where
+    -- its rounds, each of which it holds of
+    pub settle_of : (given : Given) (deeds : List Deed) (s : IsSettle quiet MayGoOn given deeds) → All P (joined s.rounds) → All P s.last → All P deeds
+    settle_of given deeds s rounds last = subst (λ (ds : List Deed). All P ds) (sym s.parted) (All-cons P Refreshes (joined s.rounds ++ s.last) refreshes (All-append P (joined s.rounds) s.last rounds last))
 
-  pub settle_all : (given : Given) (deeds : List Deed) → IsSettle quiet MayGoOn given deeds → All P deeds
-  settle_all given deeds s = subst (λ (ds : List Deed). All P ds) (sym s.parted) (All-cons P Refreshes (joined s.rounds ++ s.last) refreshes (All-append P (joined s.rounds) s.last
-      (busy_all given s.rounds s.busy)
-      (round_all (given_behind (joined s.rounds) given) s.last s.round)))
+    module _ (acts : (daemon : Daemon) → OfActs P daemon) where
+      pub busy_all : (given : Given) (rounds : List (List Deed)) → AreBusy quiet MayGoOn given rounds → All P (joined rounds)
+      busy_all given [] is = All-nil P
+      busy_all given (round ∷ rounds) is = All-append P round (joined rounds) (round_of given (λ daemon runs. acts daemon) round is.0) (busy_all (given_behind round given) rounds is.2)
+
+      pub settle_all : (given : Given) (deeds : List Deed) → IsSettle quiet MayGoOn given deeds → All P deeds
+      settle_all given deeds s = settle_of given deeds s (busy_all given s.rounds s.busy) (round_of (given_behind (joined s.rounds) given) (λ daemon runs. acts daemon) s.last s.round)
 
 -- a call that is heard of is answered so that a run goes on
 reply_served : (reply : DmReply) → (reply ≢ Refused why.Disk) × (reply ≢ Refused why.Memory) → StopsNothing (answer.Dm reply)
@@ -130,9 +137,9 @@ module _ (quiet : Entry → Bool) (MayGoOn : List Entry → ℕ → Type 0) wher
   part_so given (Kill daemon) deeds is = ap entries_of is
   part_so given (Step daemon) deeds is = step_part daemon (given_of daemon given) deeds is
   part_so given Settle deeds is = entries_all deeds (settle_all quiet MayGoOn Settles
-      (λ daemon asked told fits. (tt, told_settles asked told))
-      tt
       (λ caller told number served. inl (caller, told, number, refl))
+      tt
+      (λ daemon asked told fits. (tt, told_settles asked told))
       given deeds is)
 
   pub follows_so : (lines : List Line) (deeds : List Deed) → history.FollowsSo quiet MayGoOn lines deeds
@@ -156,7 +163,7 @@ module _ (quiet : Entry → Bool) (MayGoOn : List Entry → ℕ → Type 0) wher
 
   -- Of deeds that follow lines P holds where it holds of those, and of events, starts and kills.
   module _ (P : Deed → Type 0)
-      (acts : (daemon : Daemon) (asked : Act) (told : Heard) → Fits asked told → P (Gives daemon asked) × P (Hears daemon asked told))
+      (acts : (daemon : Daemon) → OfActs P daemon)
       (refreshes : P Refreshes) (enters : (e : Entry) → StopsNothing e.answer → P (Enters e)) (starts : (daemon : Daemon) → P (Starts daemon)) (kills : (daemon : Daemon) → P (Kills daemon)) where
     one_all : (deed : Deed) (deeds : List Deed) → deeds ≡ deed ∷ [] → P deed → All P deeds
     one_all deed deeds is so = subst (λ (ds : List Deed). All P ds) (sym is) (All-cons P deed [] so (All-nil P))
@@ -165,8 +172,8 @@ module _ (quiet : Entry → Bool) (MayGoOn : List Entry → ℕ → Type 0) wher
     part_all given (Event actor asked seed) deeds is = one_all (Enters (entry_of actor asked is.0)) deeds is.2 (enters (entry_of actor asked is.0) is.1)
     part_all given (Start daemon) deeds is = one_all (Starts daemon) deeds is (starts daemon)
     part_all given (Kill daemon) deeds is = one_all (Kills daemon) deeds is (kills daemon)
-    part_all given (Step daemon) deeds is = step_all quiet MayGoOn P acts refreshes (λ caller told number served. enters (entry_of (Caller caller) Resume told) served) daemon (given_of daemon given) deeds is
-    part_all given Settle deeds is = settle_all quiet MayGoOn P acts refreshes (λ caller told number served. enters (entry_of (Caller caller) Resume told) served) given deeds is
+    part_all given (Step daemon) deeds is = step_of P daemon (given_of daemon given) (λ runs. acts daemon) deeds is
+    part_all given Settle deeds is = settle_all quiet MayGoOn P (λ caller told number served. enters (entry_of (Caller caller) Resume told) served) refreshes acts given deeds is
 
     pub follows_all : (given : Given) (lines : List Line) (deeds : List Deed) → Follows quiet MayGoOn given lines deeds → All P deeds
     follows_all given [] deeds is = subst (λ (ds : List Deed). All P ds) (sym is) (All-nil P)

@@ -1,35 +1,24 @@
 -- Turns and settles while they go on: by the acts and the rounds that were done so far.
-use Rattle.std.proofs.Common.{◌≡◌, ◌⊎◌, ◌<◌, ◌+◌, ◌∙◌, ℕ, ◌∷◌, ◌++◌, [], Bool, true, false, List, Option, Some, None, inl, inr, refl, sym, ap, subst}
-use Rattle.std.proofs.Common.{append-nil, append_assoc, arith}
-use Rattle.std.specs.Cmp.{nat_cmp_is}
-use Rattle.std.specs.declared.cmp.Ordering.TheVariants.{Less}
-use Rattle.std.specs.List.{AllByRecursion}
-use Rattle.std.specs.List.Sorted.{IsStrictlySortedBy}
-use Rattle.std.specs.Map.{keys_of}
-use Rattle.std.specs.Ordering.{nat_cmp}
+use Rattle.std.proofs.Common.{◌≡◌, ◌⊎◌, ◌∙◌, ℕ, ◌∷◌, ◌++◌, [], Bool, true, false, List, Option, Some, None, inl, inr, refl, sym, ap, subst}
+use Rattle.std.proofs.Common.{append-nil, append_assoc}
 use Rattle.std.specs.Prelude.{All, flat_map}
 use Rattle.std.proofs.lemmas.List.Concat.{flat_map-append}
-use Rattle.std.proofs.lemmas.List.Elements.{All-nil, All-cons, All-push, All-weaker, recursion_from_All}
-use Rattle.std.proofs.lemmas.List.{map-append}
-use Rattle.hsm_types.specs.Callers.{IsCallerNumber}
+use Rattle.std.proofs.lemmas.List.Elements.{All-nil, All-cons, All-push}
 use Rattle.hsm_types.specs.declared.daemons.Act.{Act}
 use Rattle.hsm_types.specs.declared.daemons.Act.TheVariants.{Dm, Copy, Fetch, Idle}
 use Rattle.hsm_types.specs.declared.daemons.Daemon.{Daemon}
 use Rattle.hsm_types.specs.declared.daemons.Daemon.TheVariants.{Recall, Migrate}
 use Rattle.hsm_types.specs.declared.daemons.Heard.{Heard}
 use Rattle.hsm_types.specs.declared.daemons.Heard.TheVariants as heard
-use Rattle.plain_model.specs.declared.entries.Action.TheVariants.{Resume}
-use Rattle.plain_model.specs.declared.entries.Actor.TheVariants.{Caller}
-use Rattle.plain_model.specs.declared.entries.Answer.{Answer}
 use Rattle.plain_model.specs.declared.entries.Entry.{Entry}
 use Rattle.script_text.specs.declared.lines.Line.{Line}
-use Rattle.deeds.specs.Deeds.{entry_of, Deed, Enters, Refreshes, Fits, StopsNothing}
+use Rattle.deeds.specs.Deeds.{Deed, Refreshes, Fits}
 use Rattle.deeds.specs.Given.{Given, asked_behind, given_behind}
 use Rattle.deeds.specs.Lives.{life}
 use Rattle.hsm_replay.specs.Parts.{Exchange, resting, done_by, IsStepFrom, IsWork, IsUpToRest}
 use Rattle.hsm_replay.specs.Parts.{IsLeftFrom, IsTurnFrom, joined, are_quiet}
 use Rattle.hsm_replay.specs.Parts.{IsRound, AreBusy, IsSettle}
-use Rattle.hsm_replay.specs.Stopped.{Ending, IsEventCut, IsActCut, IsStepCutFrom, IsWorkCut}
+use Rattle.hsm_replay.specs.Stopped.{Ending, IsActCut, IsStepCutFrom, IsWorkCut}
 use Rattle.hsm_replay.specs.Stopped.{IsLeftCutFrom, IsTurnCutFrom, IsRoundCut, IsSettleCut}
 use Rattle.hsm_replay.specs.Stopped.{IsLineCut, StopsOn}
 use Rattle.hsm_replay.proofs.PartsDone.{follows_on}

@@ -15,11 +15,11 @@ use Rattle.plain_model.specs.declared.entries.Answer.{Answer}
 use Rattle.plain_model.specs.declared.entries.Entry.{Entry}
 use Rattle.script_text.specs.declared.lines.Line.{Line}
 use Rattle.script_text.specs.declared.lines.Line.TheVariants.{Event, Start, Kill, Step, Settle}
-use Rattle.deeds.specs.Deeds.{entry_of, Deed, Enters, Starts, Kills, Refreshes, Gives, Hears, Fits, StopsNothing}
+use Rattle.deeds.specs.Deeds.{entry_of, Deed, Enters, Starts, Kills, Refreshes, Gives, Hears, StopsNothing}
 use Rattle.deeds.specs.Given.{Given, given_of, asked_behind, given_behind}
 use Rattle.deeds.specs.Lives.{life}
-use Rattle.hsm_replay.specs.Parts.{resume_of, runs_by, runs_behind, IsPartOf, RunsByLines}
-use Rattle.hsm_replay.proofs.PartsDone.{step_all, settle_all}
+use Rattle.hsm_replay.specs.Parts.{resume_of, runs_by, runs_behind, IsRound, IsPartOf, RunsByLines}
+use Rattle.hsm_replay.proofs.PartsDone.{OfActs, step_of, round_of, settle_all}
 use Rattle.deeds.proofs.Giving.{own_then, given_none, given_then}
 
 -- behind these deeds the daemon runs
@@ -93,11 +93,16 @@ given_so Recall deeds given = refl
 given_so Migrate deeds given = refl
 
 module _ (quiet : Entry → Bool) (MayGoOn : List Entry → ℕ → Type 0) (daemon : Daemon) where
-  acts_steady : (by : Daemon) (act : Act) (told : Heard) → Fits act told → IsSteady daemon (Gives by act) × IsSteady daemon (Hears by act told)
+  acts_steady : (by : Daemon) → OfActs (IsSteady daemon) by
   acts_steady by act told fits = (gives_steady daemon by act, hears_steady daemon by act told)
 
   resumes_steady : (caller : ℕ) (told : Answer) → IsCallerNumber caller → StopsNothing told → IsSteady daemon (resume_of (caller, told))
   resumes_steady caller told number served = enters_steady daemon (entry_of (Caller caller) Resume told)
+
+  -- a round leaves all daemons as they were
+  pub round_steady : (given : Given) (round : List Deed) → IsRound quiet MayGoOn given round → is_some (given_of daemon (given_behind round given)) ≡ is_some (given_of daemon given)
+  round_steady given round is =
+      ap (λ (last : Option Act). is_some last) (given_so daemon round given) ∙ all_steady daemon round (round_of quiet MayGoOn (IsSteady daemon) resumes_steady given (λ by runs. acts_steady by) round is) (given_of daemon given)
 
   part_so : (given : Given) (line : Line) (deeds : List Deed) → IsPartOf quiet MayGoOn given line deeds → (last : Option Act) → runs_after daemon deeds last ≡ runs_by daemon line (is_some last)
   part_so given (Event actor asked seed) deeds is last =
@@ -105,9 +110,9 @@ module _ (quiet : Entry → Bool) (MayGoOn : List Entry → ℕ → Type 0) (dae
   part_so given (Start started) deeds is last = ap (λ (ds : List Deed). runs_after daemon ds last) is ∙ starts_so daemon started last
   part_so given (Kill killed) deeds is last = ap (λ (ds : List Deed). runs_after daemon ds last) is ∙ kills_so daemon killed last
   part_so given (Step by) deeds is last =
-      all_steady daemon deeds (step_all quiet MayGoOn (IsSteady daemon) acts_steady (refreshes_steady daemon) resumes_steady by (given_of by given) deeds is) last ∙ sym (step_so daemon by (is_some last))
+      all_steady daemon deeds (step_of (IsSteady daemon) by (given_of by given) (λ runs. acts_steady by) deeds is) last ∙ sym (step_so daemon by (is_some last))
   part_so given Settle deeds is last =
-      all_steady daemon deeds (settle_all quiet MayGoOn (IsSteady daemon) acts_steady (refreshes_steady daemon) resumes_steady given deeds is) last ∙ sym (settle_so daemon (is_some last))
+      all_steady daemon deeds (settle_all quiet MayGoOn (IsSteady daemon) resumes_steady (refreshes_steady daemon) acts_steady given deeds is) last ∙ sym (settle_so daemon (is_some last))
 
   pub runs_by_lines : (lines : List Line) → RunsByLines quiet MayGoOn daemon lines
   runs_by_lines [] given deeds is = ap (λ (ds : List Deed). is_some (given_of daemon (given_behind ds given))) is ∙ ap (λ (g : Given). is_some (given_of daemon g)) (given_none given)

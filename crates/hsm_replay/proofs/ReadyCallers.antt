@@ -13,12 +13,11 @@ use Rattle.plain_model.specs.Verdict.{reply_to}
 use Rattle.plain_model.specs.declared.entries.Action.TheVariants.{Resume}
 use Rattle.plain_model.specs.declared.entries.Entry.{Entry}
 use Rattle.access_park.specs.declared.access.Access.{Access}
-use Rattle.dm_service.specs.Tables.{Tables, pending_as, waiting}
+use Rattle.dm_service.specs.Tables.{pending_as, waiting}
 use Rattle.file_store.specs.Stores.{Store as FileStore, superblock_of}
 use Rattle.hsm_core.specs.Kept.{IsKept}
-use Rattle.hsm_core.specs.Ready.{ready, ready_by, resume_reply}
+use Rattle.hsm_core.specs.Ready.{ready, ready_by}
 use Rattle.hsm_core.specs.Store.{Store, state_of}
-use Rattle.hsm_core.specs.declared.store.Ready.{Ready}
 use Rattle.hsm_core.specs.declared.store.Ready.TheVariants.{Idle, Now, Waits}
 use Rattle.hsm_replay.specs.Deeds.{WorksOn}
 use Rattle.hsm_replay.specs.ReadyCallers.{CanGoOn, MayGoOn, may_go_on_by}

@@ -1,5 +1,5 @@
 -- A store that has settled is at rest by what its marked history tells, and its daemons are at work or were turned away.
-use Rattle.std.specs.Prelude.{Result, Ok, Err, OnOk}
+use Rattle.std.specs.Prelude.{Result, Ok, Err}
 use Rattle.std.proofs.Common.{◌≡◌, ◌∙◌, ◌⊎◌, ◌++◌, ◌∷◌, [], Bool, true, false, ℕ, List, Option, None, Some, IfSome, is_some, inl, inr, refl, sym, ap}
 use Rattle.std.proofs.Common.{ap₂, subst, append_assoc, arith, Contains}
 use Rattle.std.proofs.lemmas.Bool.{false≢true}
@@ -49,9 +49,9 @@ use Rattle.hsm_system.specs.declared.stops.Stop.{Stop}
 use Rattle.marked_history.specs.Follows.{IsMadeBy, IsOfSettling}
 use Rattle.hsm_replay.specs.Faults.{faults_in}
 use Rattle.hsm_replay.specs.Freshness.{IsFresh, IsToldTable, StaysFresh}
-use Rattle.hsm_replay.specs.Keeping.{unmarked, IsAtStart, IsKnownAs, IsShownAs, RecallKnows, MigrateKnows, Shows, GrowsBy}
+use Rattle.hsm_replay.specs.Keeping.{unmarked, IsAtStart, IsKnownAs, IsShownAs, RecallKnows, MigrateKnows, Shows}
 use Rattle.marked_history.specs.Marks.{Mark, entries_of}
-use Rattle.hsm_replay.specs.Resting.{EndsInTurns, first_of, IsSettledIn, LeadsTo, EndsMarked, LeadsOn}
+use Rattle.hsm_replay.specs.Resting.{EndsInTurns, first_of, IsSettledIn, LeadsTo, EndsMarked}
 use Rattle.hsm_replay.specs.Systems.{refreshed, told_next}
 use Rattle.marked_history.specs.Served.{Shown, nothing_shown, learned, shown, IsTold}
 use Rattle.hsm_replay.specs.Settled as settled
@@ -59,12 +59,21 @@ use Rattle.marked_history.specs.Settling.{IsAtWork, IsTurnedAway, BeginsPass, Is
 use Rattle.hsm_replay.specs.Systems.{Run, running}
 use Rattle.marked_history.specs.Waiting.{runs, no_more, unserved, PutsOff, RecallRests, MigrateRests, IsAtRest, AllMayWait}
 use Rattle.hsm_replay.proofs.Begun.{begins_pass}
-use Rattle.hsm_replay.proofs.ByRunning.{by_running_then}
 use Rattle.hsm_replay.proofs.SessionCalls.{unseated as no_session}
 use Rattle.hsm_replay.proofs.Freshness.{refreshed_fresh}
 use Rattle.hsm_replay.proofs.Kept.{told_unmarked}
-use Rattle.marked_history.proofs.Lists.{first_in, later_in, first_or_rest, all_then}
-use Rattle.hsm_replay.proofs.Rounds.{marked_since}
+use Rattle.marked_history.proofs.Lists.{first_in, later_in, first_or_rest}
+use Rattle.hsm_replay.specs.Deeds.{given_now, ByDeeds, IsDoneBy}
+use Rattle.hsm_replay.specs.Marking.{marks_of}
+use Rattle.hsm_replay.specs.Parts.{IsSettle}
+use Rattle.hsm_replay.specs.Stopped.{Ending}
+use Rattle.deeds.specs.Deeds.{Deed}
+use Rattle.deeds.specs.Given.{Given}
+use Rattle.marked_history.specs.Quiet.{is_quiet}
+use Rattle.script_text.specs.declared.lines.Line.TheVariants.{Settle}
+use Rattle.hsm_replay.proofs.Deeds.{done_so}
+use Rattle.hsm_replay.proofs.MarkKinds.{line_marks}
+use Rattle.hsm_replay.proofs.Rounds.{marked_since, ends_later}
 use Rattle.hsm_replay.proofs.TurnedAway.{IsRefusedOne, EndsRefused, ends_away, shown_append, recall_away, migrate_away, recall_turned_away}
 use Rattle.hsm_replay.proofs.TurnedAway.{migrate_turned_away, recall_told, migrate_told}
 use Rattle.marked_history.proofs.StillSo.{lives_still, empty_still, spacious_still}
@@ -222,19 +231,6 @@ module _ (limits : Numbers) (entries : List Entry) (k : migrate.Known) where
 ends_with : (entries first : List Entry) (sid : Sid) → entries ≡ first ++ no_more sid ∷ [] → Contains entries (no_more sid)
 ends_with entries first sid is = subst (λ (l : List Entry). Contains l (no_more sid)) (sym is) (Contains-push first (no_more sid))
 
--- the last of more marks are those of the same turns
-ends_later : (before part : List Mark) (recall_turn migrate_turn : List Entry) → EndsInTurns part recall_turn migrate_turn → EndsInTurns (before ++ part) recall_turn migrate_turn
-ends_later before part recall_turn migrate_turn ends = record {
-  before = before ++ ends.before;
-  recalls = ends.recalls;
-  migrates = ends.migrates;
-  parted = ap (λ (ms : List Mark). before ++ ms) ends.parted ∙ sym (append_assoc before ends.before (ends.recalls ++ ends.migrates));
-  by_recall = ends.by_recall;
-  by_migrate = ends.by_migrate;
-  recalled = ends.recalled;
-  migrated = ends.migrated;
-}
-
 module _ {D M : Type 0} (h : drive.Ghosts M) (opened : List M) (marks : List Mark) (s : Run D M) (shows : Shows h opened marks s) (from : List Entry) (turns : settled.EndsQuietly from s) (ends : EndsInTurns marks turns.recall_turn turns.migrate_turn) where
   abbrev k : Shown
   k = shown s.system.limits nothing_shown marks
@@ -382,22 +378,18 @@ module _ {D M : Type 0} (h : drive.Ghosts M) (opened : List M) (before part : Li
       }
 
 -- a settling that came to rest
-pub settles_rightly : {D M : Type 0} (g : disk.Ghosts D) (h : drive.Ghosts M) (old mid new : Run D M) → running mid ≡ running old → GrowsBy h (AllByRecursion IsOfSettling) old mid → EndsMarked h mid new → StaysFresh (refreshed old) new → IsKept g new.system.store → new.system.store.files.failed ≡ false → LeadsTo h (AllByRecursion IsOfSettling) (IsSettledIn new) old new
-settles_rightly g h old mid new runs keeps ends fresh kept working opened marks shows =
-    let one = keeps opened marks shows in
-    let two = ends.1 opened (marks ++ one.0) one.2 in
-    let settles : AllByRecursion IsOfSettling (one.0 ++ two.0) = all_then IsOfSettling one.0 two.0 one.1 two.1 in
-    let then : Shows h opened (marks ++ (one.0 ++ two.0)) new = subst (λ (ms : List Mark). Shows h opened ms new) (append_assoc marks one.0 two.0) two.2 in (
-      one.0 ++ two.0,
-      settles,
-      then,
-      has_settled h opened marks (one.0 ++ two.0) old new shows.marked.entries then mid.system.store.history ends.0 (ends_later one.0 two.0 ends.0.recall_turn ends.0.migrate_turn two.3) g kept working settles fresh,
-      by_running_then (running old) (running mid) one.0 two.0 runs one.3 two.4,
+pub settles_rightly : {D M : Type 0} (g : disk.Ghosts D) (h : drive.Ghosts M) (May : List Entry → ℕ → Type 0) (old mid new : Run D M) → IsDoneBy h (λ given deeds. IsSettle is_quiet May given deeds × EndsMarked mid new deeds) old new
+    → StaysFresh (refreshed old) new → IsKept g new.system.store → (old.system.store.files.failed ≡ false → new.system.store.files.failed ≡ false) → IsDoneBy h (λ given deeds. IsSettle is_quiet May given deeds × LeadsTo h (IsSettledIn new) old deeds) old new
+settles_rightly g h May old mid new done fresh kept works =
+    let ends : EndsMarked mid new done.deeds = done.part.1 in
+    let settles : AllByRecursion IsOfSettling (marks_of done.deeds) = line_marks is_quiet May (given_now old) Settle done.deeds done.part.0 in
+    done_so h (λ given deeds. IsSettle is_quiet May given deeds × EndsMarked mid new deeds) (λ given deeds. IsSettle is_quiet May given deeds × LeadsTo h (IsSettledIn new) old deeds) old new done (
+      done.part.0,
+      λ working opened marks shows. has_settled h opened marks (marks_of done.deeds) old new shows.marked.entries (done.grows opened marks shows) mid.system.store.history ends.0 ends.1 g kept (works working) settles fresh,
     )
 
--- what else is so of the marks that a line leads to
-pub keeps_leads : {D M T : Type 0} (h : drive.Ghosts M) (IsPart : List Mark → Type 0) (IsSo : List Mark → List Mark → Type 0) (result : Result T Stop) (old new : Run D M) → OnOk result (GrowsBy h IsPart old new)
-    → ((before part : List Mark) → IsPart part → IsSo before part) → LeadsOn h IsPart IsSo result old new
-keeps_leads h IsPart IsSo (Ok done) old new keeps so = λ working opened marks shows.
-    let one = keeps opened marks shows in (one.0, one.1, one.2, so marks one.0 one.1, one.3)
-keeps_leads h IsPart IsSo (Err why) old new keeps so = λ working. tt
+-- what is so of the marks of any line's deeds
+pub leads_by : {D M T : Type 0} (h : drive.Ghosts M) (IsPart : Given → List Deed → Type 0) (IsCut : Given → Ending → List Deed → Type 0) (IsSo : List Mark → List Mark → Type 0) (result : Result T Stop) (old new : Run D M)
+    → ((before part : List Mark) → IsSo before part) → ByDeeds h (λ (done : T). IsPart) IsCut result old new → ByDeeds h (λ (done : T) given deeds. IsPart given deeds × LeadsTo h IsSo old deeds) IsCut result old new
+leads_by h IsPart IsCut IsSo (Ok x) old new so done = done_so h IsPart (λ given deeds. IsPart given deeds × LeadsTo h IsSo old deeds) old new done (done.part, λ working opened marks shows. so marks (marks_of done.deeds))
+leads_by h IsPart IsCut IsSo (Err why) old new so stopped = stopped

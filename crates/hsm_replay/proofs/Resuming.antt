@@ -1,6 +1,6 @@
 -- Resumes while they go on: of the callers with lower numbers exactly those whose accesses may go on have resumed.
-use Rattle.std.proofs.Common.{◌≡◌, ◌⊎◌, ◌<◌, ◌≤◌, ◌+◌, ◌∙◌, ℕ, ◌∷◌, ◌++◌, [], Bool, true, false, List, Contains, inl, inr, refl, sym, ap, ap₂, subst}
-use Rattle.std.proofs.Common.{append-nil, append_assoc, arith, nat_lt, cond, map}
+use Rattle.std.proofs.Common.{◌≡◌, ◌⊎◌, ◌<◌, ◌≤◌, ◌+◌, ◌∙◌, ℕ, ◌∷◌, ◌++◌, [], Bool, List, Contains, inl, inr, refl, sym, ap, ap₂, subst}
+use Rattle.std.proofs.Common.{append-nil, arith, nat_lt, cond, map}
 use Rattle.std.specs.Cmp.{nat_cmp_is}
 use Rattle.std.specs.declared.cmp.Ordering.TheVariants.{Less}
 use Rattle.std.specs.List.{AllByRecursion}

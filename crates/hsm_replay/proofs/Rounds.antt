@@ -1,37 +1,40 @@
 -- Rounds of settling.
-use Rattle.std.proofs.Common.{◌≡◌, ◌≢◌, ◌∙◌, ◌+◌, ◌<◌, ◌≤◌, ◌⊎◌, ◌∷◌, ◌++◌, ◌&&◌, [], ℕ, Bool, true, false, List, length, drop, Option, IfSome}
+use Rattle.std.proofs.Common.{◌≡◌, ◌≢◌, ◌∙◌, ◌+◌, ◌<◌, ◌≤◌, ◌⊎◌, ◌∷◌, ◌++◌, ◌&&◌, [], ℕ, Bool, true, false, List, length, drop, map, Option, IfSome}
 use Rattle.std.proofs.Common.{is_some, ap₂, inl, inr, refl, sym, ap, subst, append-nil, append_assoc, arith}
-use Rattle.std.specs.List.{AllByRecursion, list_all}
+use Rattle.std.specs.List.{list_all}
 use Rattle.std.specs.Prelude.{◌==◌}
 use Rattle.std.proofs.lemmas.Bool.{eqb-true, eqb-false}
 use Rattle.std.proofs.lemmas.List.{map-append}
-use Rattle.disk_model.specs.declared.device.Disk as disk
-use Rattle.media_model.specs.declared.drive.Drive as drive
 use Rattle.hsm_types.specs.declared.daemons.Daemon.TheVariants.{Recall, Migrate}
 use Rattle.hsm_types.specs.Limits.{callers}
 use Rattle.hsm_types.specs.Rights.{Rights}
 use Rattle.plain_model.specs.declared.entries.Action.TheVariants.{Resume}
 use Rattle.plain_model.specs.declared.entries.Actor.TheVariants.{Caller}
 use Rattle.plain_model.specs.declared.entries.Entry.{Entry}
+use Rattle.plain_model.specs.declared.entries.Answer.{Answer}
+use Rattle.hsm_types.specs.declared.daemons.Act.{Act}
 use Rattle.hsm_core.specs.Answers.{entry_of}
+use Rattle.deeds.specs.Deeds as deed
+use Rattle.deeds.specs.Deeds.{Deed}
+use Rattle.deeds.specs.Given.{Given}
 use Rattle.hsm_core.specs.Ready.{ready}
 use Rattle.hsm_core.specs.Store.{Store, state_of}
 use Rattle.hsm_core.specs.declared.store.Ready.TheVariants.{Now}
 use Rattle.hsm_system.specs.Running.{Recalling, Migrating}
 use Rattle.marked_history.specs.Waiting.{Running}
-use Rattle.marked_history.specs.Follows.{IsMadeBy, IsOfSettling}
-use Rattle.hsm_replay.specs.Keeping.{Shows, GrowsBy}
 use Rattle.marked_history.specs.Marks.{Mark, entries_of}
 use Rattle.marked_history.specs.Quiet.{is_quiet}
 use Rattle.hsm_replay.specs.Freshness.{StaysFresh}
-use Rattle.hsm_replay.specs.Resting.{EndsInTurns, LeadsTo, EndsMarked}
-use Rattle.hsm_replay.specs.Settled.{RecallEndedTurn, AreStillRefused, NoneReady}
+use Rattle.hsm_replay.specs.Resting.{EndsInTurns}
+use Rattle.hsm_replay.specs.Settled.{RecallEndedTurn, AreStillRefused, NoneReady, EndsQuietly}
 use Rattle.hsm_replay.specs.Systems.{Run, running}
-use Rattle.hsm_replay.proofs.ByRunning.{by_running_then}
 use Rattle.hsm_replay.specs.Turns.{HasTurned, MayResume, IsResumeOf, HaveResumed}
+use Rattle.hsm_replay.specs.Marking.{marks_of}
+use Rattle.hsm_replay.specs.Parts.{IsTurnFrom, AreResumes, resume_of, are_quiet}
 use Rattle.hsm_replay.proofs.Freshness.{fresh_alone, fresh_on}
-use Rattle.hsm_replay.proofs.Joining.{made_settles}
-use Rattle.marked_history.proofs.Lists.{all_then}
+use Rattle.hsm_replay.proofs.MarkKinds.{turn_marks}
+use Rattle.hsm_replay.proofs.Marking.{marks_then, marks_tell}
+use Rattle.deeds.proofs.Living.{entries_then}
 use Rattle.marked_history.proofs.QuietEvents.{all_quiet_append}
 
 -- what stands behind the first entries
@@ -132,15 +135,61 @@ marked_since marks more old new entries was now is =
     let whole : old ++ entries_of more ≡ old ++ entries = ap (λ (x : List Entry). x ++ entries_of more) (sym was) ∙ sym (map-append (λ (m : Mark). m.entry) marks more) ∙ now ∙ is in
     sym (drop_first old (entries_of more)) ∙ ap (λ (x : List Entry). drop (length old) x) whole ∙ drop_first old entries
 
-no_marks : (more : List Mark) → entries_of more ≡ [] → more ≡ []
-no_marks [] is = refl
-no_marks (m ∷ more) is = absurd cc
+-- the entries behind the same ones
+pub behind_same : (first xs ys : List Entry) → first ++ xs ≡ first ++ ys → xs ≡ ys
+behind_same first xs ys same = sym (drop_first first xs) ∙ ap (λ (es : List Entry). drop (length first) es) same ∙ drop_first first ys
 
-module _ {D M : Type 0} (g : disk.Ghosts D) (h : drive.Ghosts M) where
-  pub round_ends : (old a b c : Run D M) → HasTurned Recall old a → GrowsBy h (AllByRecursion (IsMadeBy Recall)) old a → HaveResumed a b → GrowsBy h (AllByRecursion IsOfSettling) a b → HasTurned Migrate b c → GrowsBy h (AllByRecursion (IsMadeBy Migrate)) b c
-      → list_all is_quiet (drop (length old.system.store.history) c.system.store.history) ≡ true → EndsMarked h old c
-  round_ends old a b c recalled by_recall resumed by_callers migrated by_migrate quiet = by resumed.none
+-- the last of more marks are those of the same turns
+pub ends_later : (before part : List Mark) (recall_turn migrate_turn : List Entry) → EndsInTurns part recall_turn migrate_turn → EndsInTurns (before ++ part) recall_turn migrate_turn
+ends_later before part recall_turn migrate_turn ends = record {
+  before = before ++ ends.before;
+  recalls = ends.recalls;
+  migrates = ends.migrates;
+  parted = ap (λ (ms : List Mark). before ++ ms) ends.parted ∙ sym (append_assoc before ends.before (ends.recalls ++ ends.migrates));
+  by_recall = ends.by_recall;
+  by_migrate = ends.by_migrate;
+  recalled = ends.recalled;
+  migrated = ends.migrated;
+}
+
+-- ---- the marks of a quiet round
+
+module _ (recalls resumes deeds : List Deed) (parted : deeds ≡ recalls ++ resumes) (quiet : are_quiet is_quiet deeds ≡ true) where
+  -- no caller has resumed
+  none_resumed : (told : List (ℕ × Answer)) → resumes ≡ map resume_of told → resumes ≡ []
+  none_resumed [] is = is
+  none_resumed (x ∷ told) is =
+      let first : Entry = entry_of (Caller x.0) Resume x.1 in
+      let more : List Entry = deed.entries_of (map resume_of told) in
+      let whole : deed.entries_of deeds ≡ deed.entries_of recalls ++ (first ∷ more) = ap deed.entries_of (parted ∙ ap (λ (ds : List Deed). recalls ++ ds) is) ∙ entries_then recalls (resume_of x ∷ map resume_of told) in
+      absurd (loud first more (x.0, x.1, refl) (all_quiet_append (deed.entries_of recalls) (first ∷ more) (ap (λ (es : List Entry). list_all is_quiet es) (sym whole) ∙ quiet)).1)
+
+  -- so its marks are those of both turns
+  pub turns_end : (May : List Entry → ℕ → Type 0) (given : Given) → AreResumes May given resumes → (migrates : List Deed) (recall_turn migrate_turn : List Entry)
+      → (last : Option Act) → IsTurnFrom Recall last recalls → deed.entries_of recalls ≡ recall_turn → (gave : Option Act) → IsTurnFrom Migrate gave migrates → deed.entries_of migrates ≡ migrate_turn
+      → EndsInTurns (marks_of (deeds ++ migrates)) recall_turn migrate_turn
+  turns_end May given resumed migrates recall_turn migrate_turn last recalled recall_entries gave migrated migrate_entries =
+      let none : resumes ≡ [] = none_resumed resumed.told resumed.parted in
+      let same : deeds ≡ recalls = parted ∙ ap (λ (ds : List Deed). recalls ++ ds) none ∙ append-nil recalls in
+      record {
+        before = [];
+        recalls = marks_of recalls;
+        migrates = marks_of migrates;
+        parted = ap (λ (ds : List Deed). marks_of (ds ++ migrates)) same ∙ marks_then recalls migrates;
+        by_recall = turn_marks Recall last recalls recalled;
+        by_migrate = turn_marks Migrate gave migrates migrated;
+        recalled = marks_tell recalls ∙ recall_entries;
+        migrated = marks_tell migrates ∙ migrate_entries;
+      }
+
+module _ {D M : Type 0} where
+  pub round_ends : (old a b c : Run D M) (recalled : HasTurned Recall old a) → HaveResumed a b → (migrated : HasTurned Migrate b c) → list_all is_quiet (drop (length old.system.store.history) c.system.store.history) ≡ true
+      → (marks : List Mark) → EndsInTurns marks recalled.entries migrated.entries → (turns : EndsQuietly old.system.store.history c) × EndsInTurns marks turns.recall_turn turns.migrate_turn
+  round_ends old a b c recalled resumed migrated quiet marks ends = by resumed.none
     where
+      Ends : Type 0
+      Ends = (turns : EndsQuietly old.system.store.history c) × EndsInTurns marks turns.recall_turn turns.migrate_turn
+
       from : List Entry
       from = old.system.store.history
 
@@ -148,31 +197,7 @@ module _ {D M : Type 0} (g : disk.Ghosts D) (h : drive.Ghosts M) where
       behind : (entries : List Entry) → c.system.store.history ≡ from ++ entries → list_all is_quiet entries ≡ true
       behind entries is = ap (λ (x : List Entry). list_all is_quiet x) (sym (ap (λ (x : List Entry). drop (length from) x) is ∙ drop_first from entries)) ∙ quiet
 
-      -- where no caller has resumed, the marks of both turns
-      marked : b.system.store ≡ a.system.store → LeadsTo h (AllByRecursion IsOfSettling) (λ before part. EndsInTurns part recalled.entries migrated.entries) old c
-      marked none opened marks shows =
-          let one = by_recall opened marks shows in
-          let two = by_callers opened (marks ++ one.0) one.2 in
-          let three = by_migrate opened ((marks ++ one.0) ++ two.0) two.2 in
-          let empty : two.0 ≡ [] = no_marks two.0 (marked_since (marks ++ one.0) two.0 a.system.store.history b.system.store.history [] one.2.marked.entries two.2.marked.entries (ap (λ (s : Store D). s.history) none ∙ sym (append-nil a.system.store.history))) in
-          let same : ((marks ++ one.0) ++ two.0) ++ three.0 ≡ marks ++ (one.0 ++ three.0) = ap (λ (x : List Mark). ((marks ++ one.0) ++ x) ++ three.0) empty ∙ ap (λ (x : List Mark). x ++ three.0) (append-nil (marks ++ one.0)) ∙ append_assoc marks one.0 three.0 in (
-            one.0 ++ three.0,
-            all_then IsOfSettling one.0 three.0 (made_settles g h Recall one.0 one.1) (made_settles g h Migrate three.0 three.1),
-            subst (λ (ms : List Mark). Shows h opened ms c) same three.2,
-            record {
-              before = [];
-              recalls = one.0;
-              migrates = three.0;
-              parted = refl;
-              by_recall = one.1;
-              by_migrate = three.1;
-              recalled = marked_since marks one.0 old.system.store.history a.system.store.history recalled.entries shows.marked.entries one.2.marked.entries recalled.history;
-              migrated = marked_since ((marks ++ one.0) ++ two.0) three.0 b.system.store.history c.system.store.history migrated.entries two.2.marked.entries three.2.marked.entries migrated.history;
-            },
-            by_running_then (running old) (running b) one.0 three.0 (begun_runs old a b recalled resumed) one.3 three.3,
-          )
-
-      by : (b.system.store ≡ a.system.store) × NoneReady b.system.store ⊎ ((first : Entry) × (more : List Entry) × IsResumeOf first × (b.system.store.history ≡ a.system.store.history ++ first ∷ more)) → EndsMarked h old c
+      by : (b.system.store ≡ a.system.store) × NoneReady b.system.store ⊎ ((first : Entry) × (more : List Entry) × IsResumeOf first × (b.system.store.history ≡ a.system.store.history ++ first ∷ more)) → Ends
       by (inl none) =
           let history : c.system.store.history ≡ from ++ recalled.entries ++ migrated.entries = migrated.history ∙ ap (λ (s : Store D). s.history ++ migrated.entries) none.0 ∙ ap (λ (x : List Entry). x ++ migrated.entries) recalled.history in
           let all_quiet : list_all is_quiet (recalled.entries ++ migrated.entries) ≡ true = behind (recalled.entries ++ migrated.entries) (history ∙ append_assoc from recalled.entries migrated.entries) in
@@ -193,7 +218,7 @@ module _ {D M : Type 0} (g : disk.Ghosts D) (h : drive.Ghosts M) where
                   (subst (λ (rs : Rights). IfSome a.system.recall (λ (r : Recalling). AreStillRefused recalled.entries rs r.machine.known.seat)) (sym rights) (recalled.over.held_up parts.0));
               ready = λ caller is now. none.1 caller is (sym (alike.ready caller) ∙ now);
             },
-            marked none.0,
+            ends,
           )
       by (inr some) =
           let resumes : List Entry = some.0 ∷ some.1 in

@@ -29,6 +29,7 @@ use Rattle.hsm_replay.specs.Acts.{CopiesTo, FetchesFrom, OnDriveOf}
 use Rattle.hsm_replay.specs.Drives.{HaveGrown}
 use Rattle.hsm_replay.specs.Faults.{IsTrue}
 use Rattle.hsm_replay.specs.Filling.{HearsFull}
+use Rattle.hsm_replay.specs.Keeping.{Ends, GrowsBy}
 use Rattle.hsm_replay.specs.Parts.{IsRound, are_quiet, resume_of}
 use Rattle.hsm_replay.specs.Sealed.{Gives, IsStored, IsThere}
 use Rattle.hsm_replay.specs.Stopped.{Broken, Ending, IsEventCut, Lost, Unmade}
@@ -100,11 +101,13 @@ module _ {M : Type 0} (g : drive.Ghosts M) where
     abbrev pub WorksOn : Store D → Store D → Type 0
     WorksOn old new = (new ≡ old) ⊎ StillWorks old new
 
-    -- It was done: by deeds of that kind, judged by what daemons gave last before it. No event of it was answered with a fault of the disk.
+    -- It was done: by deeds of that kind, judged by what daemons gave last before it. Their marks tell what the daemons know. No event of it was answered with
+    -- a fault of the disk.
     pub record IsDoneBy (IsPart : Given → List Deed → Type 0) (old new : Run D M) : Type 0 where
       pub deeds : List Deed
       pub part : IsPart (given_now old) deeds
       pub runs : RunsBy deeds old new
+      pub grows : GrowsBy g deeds old new
       pub works : WorksOn old.system.store new.system.store
 
     -- Why the run was stopped: the last entry is that of a fault of the disk; or an event was made over a store that was closed before, of which all but the
@@ -123,6 +126,7 @@ module _ {M : Type 0} (g : drive.Ghosts M) where
       pub deeds : List Deed
       pub cut : IsCut (given_now old) ending deeds
       pub runs : RunsBy deeds old new
+      pub ends : Ends g deeds old new
       pub stops : IsStopOf why ending old.system.store new.system.store
 
     -- done or stopped, by its deeds

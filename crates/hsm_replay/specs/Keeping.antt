@@ -1,7 +1,6 @@
--- What a marked history shows of a store with its drives and its daemons, and how lines keep that.
-use Rattle.std.specs.Prelude.{◌≡◌, ◌⊎◌, List, [], ◌++◌, length, true, false, None, Result, Ok, Err, OnOk, OnErr, IfSome}
+-- What a marked history shows of a store with its drives and its daemons, and how deeds keep that.
+use Rattle.std.specs.Prelude.{◌≡◌, ◌⊎◌, List, ◌++◌, length, false, None, Ok, Err, IfSome}
 use Rattle.std.specs.List.{AllByRecursion}
-use Rattle.disk_model.specs.declared.device.Disk as disk
 use Rattle.media_model.specs.declared.drive.Drive as drive
 use Rattle.hsm_types.specs.Stubs.{print_of, entry_print}
 use Rattle.hsm_types.specs.declared.daemons.Act.{Act}
@@ -14,15 +13,13 @@ use Rattle.daemon_session.specs.Seats.{Seat, no_seat, all_marked}
 use Rattle.recall_daemon.specs.Known as recall
 use Rattle.migrate_daemon.specs.Known as migrate
 use Rattle.hsm_system.specs.Running.{Recalling, Migrating}
-use Rattle.hsm_system.specs.declared.stops.Stop.{Stop}
-use Rattle.hsm_replay.specs.Drives.{HaveGrown}
+use Rattle.deeds.specs.Deeds.{Deed}
 use Rattle.hsm_replay.specs.Faults.{faults_in, IsApart, IsTrue, AreTrue}
 use Rattle.marked_history.specs.Marks.{Mark, entries_of}
-use Rattle.hsm_system.specs.Events.{Runs}
 use Rattle.hsm_replay.specs.Sealed.{Tallies, HearsLost, HearsStored}
 use Rattle.marked_history.specs.Served.{Served, IsOf, shown, nothing_shown}
-use Rattle.marked_history.specs.Settling.{AreByRunning}
-use Rattle.hsm_replay.specs.Systems.{Run, running, told_next}
+use Rattle.hsm_replay.specs.Marking.{marks_of}
+use Rattle.hsm_replay.specs.Systems.{Run, told_next}
 
 -- ---- what machines know
 
@@ -79,20 +76,10 @@ module _ {D M : Type 0} (g : drive.Ghosts M) where
     pub lost : IfSome s.system.recall (λ (r : Recalling). HearsLost g opened s.drives marks r.machine.asked (told_next r.next))
     pub stored : IfSome s.system.migrate (λ (m : Migrating). HearsStored g s.drives m.machine.asked (told_next m.next))
 
-  -- From each marked history that shows it, entries of that kind lead on to one that shows what is left. Calls among them are made by daemons that run.
-  abbrev pub GrowsBy : (List Mark → Type 0) → Run D M → Run D M → Type 0
-  GrowsBy IsPart old new = (opened : List M) (marks : List Mark) → Shows opened marks old → (more : List Mark) × IsPart more × Shows opened (marks ++ more) new × AreByRunning (running old) more
+  -- Each marked history that shows it goes on, with the marks of these deeds, to one that shows what is left.
+  abbrev pub GrowsBy : List Deed → Run D M → Run D M → Type 0
+  GrowsBy deeds old new = (opened : List M) (marks : List Mark) → Shows opened marks old → Shows opened (marks ++ marks_of deeds) new
 
-  -- Where a run was stopped there may be no such entry, and nothing is said of what the daemons know.
-  abbrev pub Ends : (List Mark → Type 0) → Run D M → Run D M → Type 0
-  Ends IsPart old new = (opened : List M) (marks : List Mark) → Shows opened marks old → (more : List Mark) × (IsPart more ⊎ (more ≡ [])) × IsMarked opened (marks ++ more) new × AreByRunning (running old) more
-
--- ---- what is run
-
--- What marked histories show is led on by what is run, with marks of that kind. The settings stay, and the drives are the same, used.
-pub record Moves {D M T : Type 0} (g : disk.Ghosts D) (h : drive.Ghosts M) (IsPart : List Mark → Type 0) (result : Result T Stop) (old new : Run D M) : Type 0 where
-  pub limits : new.system.limits ≡ old.system.limits
-  pub drives : HaveGrown h old.drives new.drives
-  pub runs : Runs g result old.system.store new.system.store
-  pub keeps : OnOk result (GrowsBy h IsPart old new)
-  pub ends : OnErr result (Ends h IsPart old new)
+  -- Where a run was stopped nothing is said of what the daemons know.
+  abbrev pub Ends : List Deed → Run D M → Run D M → Type 0
+  Ends deeds old new = (opened : List M) (marks : List Mark) → Shows opened marks old → IsMarked opened (marks ++ marks_of deeds) new

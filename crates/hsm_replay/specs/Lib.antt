@@ -3,7 +3,7 @@ pub mod ReadyCallers
 pub mod Parts
 pub mod Stopped
 pub mod Lines
-pub mod Deeds
+pub mod Marking
 pub mod Faults
 pub mod Acts
 pub mod Steps
@@ -15,5 +15,6 @@ pub mod Freshness
 pub mod Settled
 pub mod Turns
 pub mod Keeping
+pub mod Deeds
 pub mod Doing
 pub mod Resting

@@ -1,5 +1,5 @@
 -- What marked histories tell of a store that has settled.
-use Rattle.std.specs.Prelude.{◌≡◌, false, List, ◌++◌, Result, OnOk}
+use Rattle.std.specs.Prelude.{◌≡◌, false, List, ◌++◌}
 use Rattle.std.specs.List.{AllByRecursion}
 use Rattle.media_model.specs.declared.drive.Drive as drive
 use Rattle.hsm_types.specs.declared.daemons.Daemon.TheVariants.{Recall, Migrate}
@@ -7,13 +7,14 @@ use Rattle.plain_model.specs.declared.entries.Entry.{Entry}
 use Rattle.script_text.specs.declared.lines.Line.{Line}
 use Rattle.file_store.specs.Stores.{superblock_of}
 use Rattle.plain_model.specs.State.{State, just_opened}
-use Rattle.hsm_system.specs.declared.stops.Stop.{Stop}
-use Rattle.marked_history.specs.Follows.{IsMadeBy, IsOfSettling}
+use Rattle.deeds.specs.Deeds.{Deed}
+use Rattle.marked_history.specs.Follows.{IsMadeBy}
 use Rattle.hsm_replay.specs.Keeping.{Shows}
+use Rattle.hsm_replay.specs.Marking.{marks_of}
 use Rattle.marked_history.specs.Marks.{Mark, entries_of}
 use Rattle.hsm_replay.specs.Settled.{EndsQuietly}
 use Rattle.hsm_replay.specs.Systems.{Run, running}
-use Rattle.marked_history.specs.Settling.{AreByRunning, HasSettled, LeavesSettled}
+use Rattle.marked_history.specs.Settling.{HasSettled, LeavesSettled}
 
 -- The last marks are those of a turn of recall and of one of migration, each with calls of its daemon alone.
 pub record EndsInTurns (marks : List Mark) (recall_turn migrate_turn : List Entry) : Type 0 where
@@ -26,21 +27,13 @@ pub record EndsInTurns (marks : List Mark) (recall_turn migrate_turn : List Entr
   pub recalled : entries_of recalls ≡ recall_turn
   pub migrated : entries_of migrates ≡ migrate_turn
 
--- ---- what lines lead to
+-- it has come to rest, in turns of which the last of these deeds are
+abbrev pub EndsMarked : {D M : Type 0} → Run D M → Run D M → List Deed → Type 0
+EndsMarked old new deeds = (turns : EndsQuietly old.system.store.history new) × EndsInTurns (marks_of deeds) turns.recall_turn turns.migrate_turn
 
-module _ {D M : Type 0} (g : drive.Ghosts M) where
-  -- From each marked history that shows the store, marks of that kind lead on to one that shows what is left, and of which that is so. Calls among them are
-  -- made by daemons that run.
-  abbrev pub LeadsTo : (List Mark → Type 0) → (List Mark → List Mark → Type 0) → Run D M → Run D M → Type 0
-  LeadsTo IsPart IsSo old new = (opened : List M) (marks : List Mark) → Shows g opened marks old → (part : List Mark) × IsPart part × Shows g opened (marks ++ part) new × IsSo marks part × AreByRunning (running old) part
-
-  -- It has come to rest, in turns that are marked so.
-  abbrev pub EndsMarked : Run D M → Run D M → Type 0
-  EndsMarked old new = (turns : EndsQuietly old.system.store.history new) × LeadsTo (AllByRecursion IsOfSettling) (λ before part. EndsInTurns part turns.recall_turn turns.migrate_turn) old new
-
-  -- where the store works, what isn't stopped leads on so
-  abbrev pub LeadsOn : {T : Type 0} → (List Mark → Type 0) → (List Mark → List Mark → Type 0) → Result T Stop → Run D M → Run D M → Type 0
-  LeadsOn IsPart IsSo result old new = old.system.store.files.failed ≡ false → OnOk result (LeadsTo IsPart IsSo old new)
+-- where the store works, it is so of each marked history that shows it, and of the marks of the deeds behind that
+abbrev pub LeadsTo : {D M : Type 0} → drive.Ghosts M → (List Mark → List Mark → Type 0) → Run D M → List Deed → Type 0
+LeadsTo {M = M} g IsSo old deeds = old.system.store.files.failed ≡ false → (opened : List M) (marks : List Mark) → Shows g opened marks old → IsSo marks (marks_of deeds)
 
 -- the state in which the store was opened
 abbrev pub first_of : {D M : Type 0} → Run D M → State

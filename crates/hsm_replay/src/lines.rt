@@ -2,15 +2,14 @@
 ghost use Rattle.std.specs.Prelude.{◌≡◌, ℕ, Option, OnOk};
 ghost use Rattle.script_text.specs.Lines.{IsLine, IsEvent};
 ghost use Rattle.script_text.specs.declared.lines.Line.TheVariants.{Event};
-ghost use Rattle.marked_history.specs.Follows.{IsPartOf};
 ghost use Rattle.marked_history.specs.Quiet.{is_quiet};
 ghost use Rattle.hsm_replay.specs.Deeds.{ByDeeds};
 ghost use Rattle.hsm_replay.specs.ReadyCallers.{MayGoOn};
-ghost use Rattle.hsm_replay.specs.Keeping.{Moves};
+ghost use Rattle.hsm_system.specs.Events.{Runs};
 ghost use Rattle.hsm_replay.specs.Parts.{IsLinePart};
 ghost use Rattle.hsm_replay.specs.Stopped.{IsLineCut};
 ghost use Rattle.hsm_replay.specs.Doing.{Does};
-ghost use Rattle.hsm_replay.specs.Resting.{IsLeftBy, LeadsOn};
+ghost use Rattle.hsm_replay.specs.Resting.{IsLeftBy, LeadsTo};
 ghost use Rattle.hsm_replay.specs.Systems.{running};
 ghost use Rattle.marked_history.specs.Settling.{running_by};
 ghost use Rattle.hsm_replay.specs.Running.{commit_line, IsAllDurable};
@@ -30,11 +29,10 @@ impl<D: Disk, M: Drive> Replay<D, M> {
     /// line was answered with a fault of the disk, also over a store that was closed before, which is left as it is.
     pub fn line(&mut self, alloc: Global, line: Line) -> Result<(), Stop>
         requires { IsLine line }
-        ensures moves { Moves D.Disk M.Drive (IsPartOf line) result self.old self.new }
+        ensures moves { Runs D.Disk result self.old.system.store self.new.system.store }
         ensures does { Does D.Disk M.Drive line result self.old self.new }
         ensures runs { running self.new ≡ running_by line (running self.old) }
-        ensures left { LeadsOn M.Drive (IsPartOf line) (IsLeftBy line self.new) result self.old self.new }
-        ensures deeds { ByDeeds M.Drive (λ done. IsLinePart is_quiet (MayGoOn self.old.system.store) line) (IsLineCut is_quiet (MayGoOn self.old.system.store) line) result self.old self.new }
+        ensures deeds { ByDeeds M.Drive (λ done given deeds. IsLinePart is_quiet (MayGoOn self.old.system.store) line given deeds × LeadsTo M.Drive (IsLeftBy line self.new) self.old deeds) (IsLineCut is_quiet (MayGoOn self.old.system.store) line) result self.old self.new }
     {
         match line {
             Line::Event { actor, action, .. } => self.event(alloc, actor, action),
@@ -54,7 +52,7 @@ impl<D: Disk, M: Drive> Replay<D, M> {
     /// Makes the event.
     fn event(&mut self, alloc: Global, actor: Actor, action: Action) -> Result<(), Stop>
         requires { (seed : Option ℕ) × IsEvent actor action seed }
-        ensures moves { (seed : Option ℕ) → Moves D.Disk M.Drive (IsPartOf (Event actor action seed)) result self.old self.new }
+        ensures moves { Runs D.Disk result self.old.system.store self.new.system.store }
         ensures does { (seed : Option ℕ) → Does D.Disk M.Drive (Event actor action seed) result self.old self.new }
         ensures deeds { (seed : Option ℕ) → ByDeeds M.Drive (λ done. IsLinePart is_quiet (MayGoOn self.old.system.store) (Event actor action seed)) (IsLineCut is_quiet (MayGoOn self.old.system.store) (Event actor action seed)) result self.old self.new }
     {
@@ -63,7 +61,7 @@ impl<D: Disk, M: Drive> Replay<D, M> {
 
     /// Makes all durable that is held, as one event.
     pub fn commit(&mut self, alloc: Global) -> Result<(), Stop>
-        ensures moves { Moves D.Disk M.Drive (IsPartOf commit_line) result self.old self.new }
+        ensures moves { Runs D.Disk result self.old.system.store self.new.system.store }
         ensures does { Does D.Disk M.Drive commit_line result self.old self.new }
         ensures durable { OnOk result (IsAllDurable self.new.system.store) }
         ensures deeds { ByDeeds M.Drive (λ done. IsLinePart is_quiet (MayGoOn self.old.system.store) commit_line) (IsLineCut is_quiet (MayGoOn self.old.system.store) commit_line) result self.old self.new }

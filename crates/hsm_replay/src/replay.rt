@@ -1,17 +1,15 @@
 //! A store with its daemons and its drives, and the steps that daemons take on them.
 ghost use Rattle.std.specs.Prelude.{◌≡◌, ◌<◌, ◌^◌, ◌↔◌, ◌∷◌, [], IsTrue, length, None, IfErr, OnOk};
-ghost use Rattle.std.specs.List.{AllByRecursion};
 ghost use Rattle.hsm_core.specs.Kept.{IsKept};
 ghost use Rattle.hsm_core.specs.Ready.{ready};
 ghost use Rattle.hsm_core.specs.declared.store.Ready.TheVariants.{Now};
 ghost use Rattle.hsm_types.specs.Callers.{IsCallerNumber};
-ghost use Rattle.marked_history.specs.Follows.{IsOfSettling, IsStepOf};
 ghost use Rattle.hsm_system.specs.Asking.{MigrateIsRight, RecallIsRight};
 ghost use Rattle.hsm_system.specs.Systems.{Rests};
 ghost use Rattle.deeds.specs.Deeds.{Kills, Refreshes, Starts};
 ghost use Rattle.hsm_replay.specs.Deeds.{ByDeeds, IsResumeCut, MayResumeBy, RunsBy};
 ghost use Rattle.hsm_replay.specs.ReadyCallers.{MayGoOn};
-ghost use Rattle.hsm_replay.specs.Keeping.{Moves};
+ghost use Rattle.hsm_system.specs.Events.{Runs};
 ghost use Rattle.hsm_replay.specs.Parts.{IsStep};
 ghost use Rattle.hsm_replay.specs.Stopped.{IsStepCut};
 ghost use Rattle.hsm_replay.specs.Steps.{Steps, Halts};
@@ -89,7 +87,7 @@ impl<D: Disk, M: Drive> Replay<D, M> {
     pub fn step(&mut self, alloc: Global, daemon: Daemon) -> Result<(), Stop>
         ensures stepped { OnOk result (Steps D.Disk M.Drive daemon self.old self.new) }
         ensures stopped { IfErr result (λ why. Halts D.Disk M.Drive daemon self.old why self.new) }
-        ensures moves { Moves D.Disk M.Drive (IsStepOf daemon) result self.old self.new }
+        ensures moves { Runs D.Disk result self.old.system.store self.new.system.store }
         ensures runs { running self.new ≡ running self.old }
         ensures deeds { ByDeeds M.Drive (λ done. IsStep daemon) (IsStepCut daemon) result self.old self.new }
     {
@@ -157,7 +155,7 @@ impl<D: Disk, M: Drive> Replay<D, M> {
     /// The caller resumes where its access may go on.
     pub(crate) fn resume(&mut self, alloc: Global, caller: CallerId) -> Result<(), Stop>
         requires { IsCallerNumber caller }
-        ensures moves { Moves D.Disk M.Drive (AllByRecursion IsOfSettling) result self.old self.new }
+        ensures moves { Runs D.Disk result self.old.system.store self.new.system.store }
         ensures resumed { OnOk result (MayResume caller self.old self.new) }
         ensures runs { running self.new ≡ running self.old }
         ensures deeds { ByDeeds M.Drive (λ done. MayResumeBy (MayGoOn self.old.system.store) caller) (IsResumeCut (MayGoOn self.old.system.store) caller) result self.old self.new }

@@ -1,6 +1,5 @@
 use Rattle.std.proofs.Common.{◌≡◌, ◌≢◌, inl, List, None, Some, Ok, IfErr, refl, sym, subst, arith}
 use Rattle.disk_model.specs.Calls.{RoseByOne}
-use Rattle.media_model.specs.Memory.{has_gives}
 use Rattle.media_model.specs.contracts.sure.SureDriveDrive.TheImpl as sure
 use Rattle.plain_model.specs.State.{Held}
 use Rattle.plain_model.specs.Stands.{Stands}
@@ -9,21 +8,18 @@ use Rattle.script_text.specs.declared.lines.Line.{Line}
 use Rattle.drill_script.specs.Drill.{drill_lines}
 use Rattle.drill_script.specs.Summary.{summary_line}
 use Rattle.hsm_cli.specs.declared.causes.Cause.TheVariants.{DiskFault, NoMemory}
-use Rattle.hsm_cli.specs.Clauses.{HasDrilled}
-use Rattle.hsm_cli.specs.Daemons.{IsWellServedOver, KeepsThroughoutOver}
+use Rattle.hsm_cli.specs.Daemons.{IsWellServedOver}
 use Rattle.hsm_cli.specs.Deeds.{AreDone, AreThese, DrivesInMemory, HasDone, HaveGone, MayGoOnOver}
 use Rattle.hsm_cli.specs.Endings.{cause_in, WritingEnds}
 use Rattle.hsm_cli.specs.Follows.{SettlesOn}
-use Rattle.hsm_cli.specs.Sealing.{LosesNothing}
 use Rattle.hsm_cli.specs.Texts.{drill_text}
 use Rattle.hsm_cli.specs.RunObjects.{sink_told}
 use Rattle.hsm_cli.proofs.ByCause.{if_told}
-use Rattle.hsm_cli.proofs.Drills.{for_memory, no_fault, left_new, tells_left, has_drilled, drills_all, drills_first}
+use Rattle.hsm_cli.proofs.Drills.{for_memory, no_fault, left_new, tells_left}
 use Rattle.hsm_cli.proofs.Faults.{caused_new, none_failed}
 use Rattle.hsm_cli.proofs.Legality.{good_new, good_unopened, packed_new}
-use Rattle.hsm_cli.proofs.Scripted.{settles_new}
 use Rattle.hsm_cli.proofs.Showings.{takes_as}
-use Rattle.hsm_cli.proofs.Deeds.{done_new, drill_told, went_in_memory}
+use Rattle.hsm_cli.proofs.Deeds.{done_new, drill_told, gone_in_memory, none_in_memory}
 use Rattle.hsm_cli.proofs.Doing.{also_well, done_as, none_done}
 use Rattle.hsm_cli.proofs.Daemons.{none_well}
 use Rattle.hsm_cli.proofs.drilling.drill.Given.{Over}
@@ -40,21 +36,6 @@ module _ (g : Over) (c : After-run_on-drilled g) where
 
 pub tell-requires : goal.tell-requires
 tell-requires g c = memory g (goal.at.tell-requires g c).After-run_on-drilled
-
-pub returns-in-Ok-clause-script : goal.returns-in-Ok-clause-script
-returns-in-Ok-clause-script g c =
-    let opened = c.in-Ok.prepared.hsm.opened in
-    let empty = c.in-Ok.ensures.empty in
-    let ran = c.run_on-drilled.ensures in
-    let ended = c.run_on-drilled.result.ended in
-    let history = c.run_on-drilled.result.history in
-    let given = c.in-Ok.prepared.drives.items in
-    let left = c.run_on-drilled.result.drives.items in
-    rw (c.ended.ensures, c.err-cause.ensures.value)
-    (settles_new g.row.D.Denot opened (λ so well. HasDrilled so (λ marks. well marks × LosesNothing marks) c.args.number (cause_in c.tell.result) history) empty.0 empty.1 empty.2
-    (has_drilled (SettlesOn (Some opened)) (λ marks. KeepsThroughoutOver (Some opened) marks × LosesNothing marks) c.args.number history (sink_told g.O.Sink.taken g.O.Sink.fault_count c.args.sink.now c.tell.new.sink) ended c.tell.result
-    (drills_all _ opened given left c.seals_are_whole.ensures refl (λ d v there. has_gives d v there) c.args.number c.in-Ok.prepared.script history c.in-Ok.ensures.script ran.keeps ended ran.all)
-    (drills_first _ opened given left c.seals_are_whole.ensures refl (λ d v there. has_gives d v there) c.args.number c.in-Ok.prepared.script history c.in-Ok.ensures.script ran.keeps ran.first) c.tell.ensures.ends c.tell.ensures.ended))
 
 pub returns-in-Ok-clause-legality : goal.returns-in-Ok-clause-legality
 returns-in-Ok-clause-legality g c = rw c.ended.ensures (good_new c.in-Ok.prepared.hsm.opened c.run_on-drilled.result.history c.in-Ok.ensures.empty.0 c.in-Ok.ensures.empty.1 c.in-Ok.ensures.empty.2 (c.run_on-drilled.ensures.good (c.run_on-drilled.result.disk, refl, tt)))
@@ -100,14 +81,15 @@ returns-in-Ok-clause-deeds g c =
     let empty = c.in-Ok.ensures.empty in
     let drilled = c.run_on-drilled.result in
     let may = MayGoOnOver (Some opened) in
+    let settles = SettlesOn (Some opened) in
     let lines = AreThese (drill_lines c.args.number) in
     rw (c.ended.ensures, c.err-cause.ensures.value)
     (done_new _ g.row.D.Denot opened lines (cause_in c.tell.result) (DrivesInMemory standard) drilled.history empty.0 empty.1 empty.2
     (also_well (Some opened) _ (DrivesInMemory standard) drilled.history c.run_on-drilled.ensures.well
-    (done_as standard (AreDone may lines (cause_in drilled.ended)) (AreDone may lines (cause_in c.tell.result)) _ (DrivesInMemory standard) drilled.history
-    (λ deeds done. drill_told may lines (sink_told g.O.Sink.taken g.O.Sink.fault_count c.args.sink.now c.tell.new.sink) drilled.ended c.tell.result deeds c.tell.ensures.ends c.tell.ensures.ended done)
-    (λ deeds gone. went_in_memory (λ ds. ds.items) (Ok c.in-Ok.prepared.drives) drilled.drives.items c.in-Ok.ensures.handed deeds gone)
-    (subst (λ (script : List Line). HasDone standard (AreDone may (AreThese script) (cause_in drilled.ended)) (λ deeds. HaveGone sure.ghosts c.in-Ok.prepared.drives.items deeds drilled.drives.items) drilled.history) c.in-Ok.ensures.script c.run_on-drilled.ensures.deeds))))
+    (done_as standard (AreDone may settles lines (cause_in drilled.ended)) (AreDone may settles lines (cause_in c.tell.result)) _ (DrivesInMemory standard) drilled.history
+    (λ deeds done. drill_told may settles lines (sink_told g.O.Sink.taken g.O.Sink.fault_count c.args.sink.now c.tell.new.sink) drilled.ended c.tell.result deeds c.tell.ensures.ends c.tell.ensures.ended done)
+    (gone_in_memory c.seals_are_whole.ensures c.in-Ok.prepared.drives.items drilled.drives.items c.in-Ok.ensures.handed)
+    (subst (λ (script : List Line). HasDone standard (AreDone may settles (AreThese script) (cause_in drilled.ended)) (λ deeds. HaveGone sure.ghosts standard c.in-Ok.prepared.drives.items deeds drilled.drives.items) drilled.history) c.in-Ok.ensures.script c.run_on-drilled.ensures.deeds))))
 
 pub returns-in-Err-clause-deeds : goal.returns-in-Err-clause-deeds
-returns-in-Err-clause-deeds g c = rw c.unopened.ensures (none_done _ (λ deeds. IsWellServedOver {D = g.row.D.Denot} None deeds × DrivesInMemory standard deeds) _ refl (inl refl) (none_well _ _ _, inl refl))
+returns-in-Err-clause-deeds g c = rw c.unopened.ensures (none_done _ (λ deeds. IsWellServedOver {D = g.row.D.Denot} None deeds × DrivesInMemory standard deeds) _ refl (inl refl) (none_well _ _ _, none_in_memory))

@@ -1,6 +1,6 @@
 use Rattle.std.proofs.Common.{◌≡◌, false}
 use Rattle.hsm_system.specs.Events.{HasGrown}
-use Rattle.hsm_cli.proofs.Daemons.{run_is_well, run_keeps}
+use Rattle.hsm_cli.proofs.Daemons.{run_is_well}
 use Rattle.hsm_cli.proofs.Drills.{has_left}
 use Rattle.hsm_cli.proofs.Faults.{IsMade, caused_served, made}
 use Rattle.hsm_cli.proofs.Telling.{not_failed}
@@ -15,17 +15,8 @@ module _ (g : Over) (c : After-close-disk g) where
   served : IsMade c.close-hsm.result.0.history
   served = rw c.close-hsm.ensures.store (made c.run_all-ended.ensures.deeds)
 
-pub returns-clause-all : goal.returns-clause-all
-returns-clause-all g c = rw (c.close-disk.ensures.entries, c.close-hsm.ensures.store, c.close-hsm.ensures.drives) (rw c.new-replay.ensures at c.run_all-ended.ensures.all)
-
-pub returns-clause-first : goal.returns-clause-first
-returns-clause-first g c = rw (c.close-disk.ensures.entries, c.close-hsm.ensures.store, c.close-hsm.ensures.drives) (rw c.new-replay.ensures at c.run_all-ended.ensures.first)
-
 pub returns-clause-well : goal.returns-clause-well
-returns-clause-well g c = rw c.close-disk.ensures.entries (run_is_well (record { anew = c.makes_anew.ensures; over = c.takes_over.ensures; begins = c.begins_right.ensures; passes = c.all_passed.ensures; frees = c.punch_frees.ensures }) g.D.Disk c.args.hsm c.close-hsm.result.0 (goes_on g (goal.at.returns-clause-well g c).After-close-disk) c.close-disk.ensures.kept)
-
-pub returns-clause-keeps : goal.returns-clause-keeps
-returns-clause-keeps g c = rw c.close-disk.ensures.entries (run_keeps c.served_keeps_all.ensures g.D.Disk c.args.hsm c.close-hsm.result.0 (goes_on g (goal.at.returns-clause-keeps g c).After-close-disk) c.close-disk.ensures.kept)
+returns-clause-well g c = rw c.close-disk.ensures.entries (run_is_well (record { anew = c.makes_anew.ensures; over = c.takes_over.ensures; begins = c.begins_right.ensures; passes = c.all_passed.ensures; frees = c.punch_frees.ensures; keeps = c.served_keeps_all.ensures }) g.D.Disk c.args.hsm c.close-hsm.result.0 (goes_on g (goal.at.returns-clause-well g c).After-close-disk) c.close-disk.ensures.kept)
 
 pub returns-clause-good : goal.returns-clause-good
 returns-clause-good g c = rw (c.close-disk.ensures.disk, c.close-disk.ensures.entries, ← (goes_on g (goal.at.returns-clause-good g c).After-close-disk).opened) c.close-disk.ensures.kept.good

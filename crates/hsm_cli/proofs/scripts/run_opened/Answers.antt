@@ -5,7 +5,7 @@ use Rattle.deeds.specs.Deeds.{Deed}
 use Rattle.file_store.specs.Stores.{Store as FileStore}
 use Rattle.hsm_cli.specs.Clauses.{HasRead, IsWhole}
 use Rattle.hsm_cli.proofs.Committing.{ran_well, on_none, whole}
-use Rattle.hsm_cli.proofs.Daemons.{run_is_well, run_keeps}
+use Rattle.hsm_cli.proofs.Daemons.{run_is_well}
 use Rattle.hsm_cli.proofs.Faults.{caused_served, made}
 use Rattle.hsm_cli.proofs.Legality.{orderly, plain_over}
 use Rattle.hsm_cli.proofs.Quiet.{works_still, reads_quietly, writes_quietly, lent_first}
@@ -13,22 +13,15 @@ use Rattle.hsm_cli.proofs.Scripted.{idle_none}
 use Rattle.hsm_cli.proofs.Telling.{told_fault, faultless_unless, fault_caused, read_by, written_if_none, written_if_works, told_unready, run_ends}
 use Rattle.hsm_cli.specs.Endings.{cause_in}
 use Rattle.hsm_replay.specs.Running.{IsAllDurable}
-use Rattle.hsm_cli.proofs.Endings.{has_run, before_run}
+use Rattle.hsm_cli.proofs.Endings.{before_run}
 use Rattle.hsm_cli.specs.RunObjects.{source_told, sink_told}
+use Rattle.hsm_cli.specs.Follows.{SettlesOn}
 use Rattle.hsm_cli.specs.Deeds.{AreDone, AreOfScript, HaveGone, MayGoOnOver}
 use Rattle.hsm_cli.proofs.Doing.{done_as, told_done}
 use Rattle.hsm_cli.proofs.scripts.run_opened.Goals as goal
 
-pub returns-clause-script : goal.returns-clause-script
-returns-clause-script g c =
-    rw (c.first_cause.ensures, c.close-disk.ensures.entries)
-    (has_run _ _ c.args.commits (source_told g.I.Source.left g.I.Source.fault_count c.args.source.now c.run_with-ended.new.source) _ (sink_told g.O.Sink.taken g.O.Sink.fault_count c.args.sink.now c.write_transcript-written.new.sink) c.run_with-ended.result.ended c.write_transcript-written.result c.write_transcript-written.ensures.refused c.run_with-ended.ensures.ran)
-
 pub returns-clause-well : goal.returns-clause-well
-returns-clause-well g c = rw c.close-disk.ensures.entries (run_is_well (record { anew = c.makes_anew.ensures; over = c.takes_over.ensures; begins = c.begins_right.ensures; passes = c.all_passed.ensures; frees = c.punch_frees.ensures }) g.D.Disk c.args.hsm c.run_with-ended.result.hsm c.run_with-ended.ensures.goes_on c.close-disk.ensures.kept)
-
-pub returns-clause-keeps : goal.returns-clause-keeps
-returns-clause-keeps g c = rw c.close-disk.ensures.entries (run_keeps c.served_keeps_all.ensures g.D.Disk c.args.hsm c.run_with-ended.result.hsm c.run_with-ended.ensures.goes_on c.close-disk.ensures.kept)
+returns-clause-well g c = rw c.close-disk.ensures.entries (run_is_well (record { anew = c.makes_anew.ensures; over = c.takes_over.ensures; begins = c.begins_right.ensures; passes = c.all_passed.ensures; frees = c.punch_frees.ensures; keeps = c.served_keeps_all.ensures }) g.D.Disk c.args.hsm c.run_with-ended.result.hsm c.run_with-ended.ensures.goes_on c.close-disk.ensures.kept)
 
 pub returns-clause-now : goal.returns-clause-now
 returns-clause-now g c = rw (c.close-disk.ensures.disk, c.close-disk.ensures.entries, ← c.run_with-ended.ensures.goes_on.opened) c.close-disk.ensures.now
@@ -101,7 +94,7 @@ returns-clause-ends g c = rw (c.close-disk.ensures.disk, c.first_cause.ensures, 
 pub returns-clause-reads : goal.returns-clause-reads
 returns-clause-reads g c =
     rw c.first_cause.ensures
-    (reads_quietly _ _ c.args.commits (source_told g.I.Source.left g.I.Source.fault_count c.args.source.now c.run_with-ended.new.source) _ c.run_with-ended.result.ended c.write_transcript-written.result c.run_with-ended.ensures.ran
+    (reads_quietly (MayGoOnOver (Some c.args.hsm.opened)) (SettlesOn (Some c.args.hsm.opened)) (AreOfScript c.args.commits (g.I.Source.left c.args.source.now)) _ _ (source_told g.I.Source.left g.I.Source.fault_count c.args.source.now c.run_with-ended.new.source) c.run_with-ended.result.ended c.write_transcript-written.result c.run_with-ended.ensures.deeds
     (λ none. (c.write_transcript-written.ensures.idle (c.close-disk.ensures.entries ∙ none)).0) c.run_with-ended.ensures.quiet)
 
 pub returns-clause-lent : goal.returns-clause-lent
@@ -113,8 +106,8 @@ returns-clause-lent g c =
 pub returns-clause-writes : goal.returns-clause-writes
 returns-clause-writes g c =
     rw c.first_cause.ensures
-    (writes_quietly _ _ c.args.commits (source_told g.I.Source.left g.I.Source.fault_count c.args.source.now c.run_with-ended.new.source) _ (sink_told g.O.Sink.taken g.O.Sink.fault_count c.args.sink.now c.write_transcript-written.new.sink) c.run_with-ended.result.ended c.write_transcript-written.result c.write_transcript-written.ensures.refused
-    c.run_with-ended.ensures.ran c.write_transcript-written.ensures.quiet (λ none. ap g.O.Sink.fault_count (c.write_transcript-written.ensures.idle (c.close-disk.ensures.entries ∙ none)).1))
+    (writes_quietly (MayGoOnOver (Some c.args.hsm.opened)) (SettlesOn (Some c.args.hsm.opened)) (AreOfScript c.args.commits (g.I.Source.left c.args.source.now)) _ _ (sink_told g.O.Sink.taken g.O.Sink.fault_count c.args.sink.now c.write_transcript-written.new.sink) c.run_with-ended.result.ended c.write_transcript-written.result c.write_transcript-written.ensures.refused
+    c.run_with-ended.ensures.deeds c.write_transcript-written.ensures.quiet (λ none. ap g.O.Sink.fault_count (c.write_transcript-written.ensures.idle (c.close-disk.ensures.entries ∙ none)).1))
 
 pub returns-clause-sound : goal.returns-clause-sound
 returns-clause-sound g c =
@@ -124,9 +117,10 @@ returns-clause-sound g c =
 pub returns-clause-deeds : goal.returns-clause-deeds
 returns-clause-deeds g c =
     let may = MayGoOnOver (Some c.args.hsm.opened) in
+    let settles = SettlesOn (Some c.args.hsm.opened) in
     let lines = AreOfScript c.args.commits (g.I.Source.left c.args.source.now) in
-    let goes = λ (deeds : List Deed). MatchResult c.args.drives (λ ds. HaveGone g.M.Drive ds.items deeds c.run_with-ended.result.drives.items) (λ why. deeds ≡ []) in
+    let goes = λ (deeds : List Deed). MatchResult c.args.drives (λ ds. HaveGone g.M.Drive standard ds.items deeds c.run_with-ended.result.drives.items) (λ why. deeds ≡ []) in
     rw (c.first_cause.ensures, c.close-disk.ensures.entries)
-    (done_as standard (AreDone may lines (cause_in c.run_with-ended.result.ended)) _ goes goes _
-    (λ deeds done. told_done may lines (sink_told g.O.Sink.taken g.O.Sink.fault_count c.args.sink.now c.write_transcript-written.new.sink) (cause_in c.run_with-ended.result.ended) c.write_transcript-written.result deeds c.write_transcript-written.ensures.refused done) (λ deeds gone. gone)
+    (done_as standard (AreDone may settles lines (cause_in c.run_with-ended.result.ended)) _ goes goes _
+    (λ deeds done. told_done may settles lines (sink_told g.O.Sink.taken g.O.Sink.fault_count c.args.sink.now c.write_transcript-written.new.sink) (cause_in c.run_with-ended.result.ended) c.write_transcript-written.result deeds c.write_transcript-written.ensures.refused done) (λ deeds gone. gone)
     c.run_with-ended.ensures.deeds)

@@ -5,15 +5,13 @@ use Rattle.hsm_cli.specs.declared.causes.Cause.TheVariants.{ScriptRefused, Words
 use Rattle.hsm_cli.specs.declared.causes.Cause.TheVariants.{HostFault, NoMemory}
 use Rattle.hsm_cli.specs.Clauses.{HasRead}
 use Rattle.hsm_cli.specs.Endings.{IsBeforeReading}
+use Rattle.hsm_cli.specs.Follows.{SettlesOn}
 use Rattle.hsm_cli.specs.RunObjects.{source_told}
 use Rattle.hsm_cli.proofs.Scripted.{ends_for}
 use Rattle.hsm_cli.specs.Deeds.{AreDone, AreOfScript, MayGoOnOver}
 use Rattle.hsm_cli.proofs.Deeds.{before_reading}
 use Rattle.hsm_cli.proofs.Doing.{idle_done, none_done}
 use Rattle.hsm_cli.proofs.scripts.run_with.Goals as goal
-
-pub returns-in-Ok-clause-ran : goal.returns-in-Ok-clause-ran
-returns-in-Ok-clause-ran g c = rw (c.in-Ok.is, c.close-hsm.ensures.store, c.close-hsm.ensures.drives) (rw c.new-replay.ensures at c.run_script-ended.ensures.ran)
 
 pub returns-in-Ok-clause-ends : goal.returns-in-Ok-clause-ends
 returns-in-Ok-clause-ends g c =
@@ -57,5 +55,6 @@ returns-in-Ok-clause-deeds g c = rw (c.in-Ok.is, c.close-hsm.ensures.store, c.cl
 pub returns-in-Err-clause-deeds : goal.returns-in-Err-clause-deeds
 returns-in-Err-clause-deeds g c =
     let may = MayGoOnOver (Some c.args.hsm.opened) in
+    let settles = SettlesOn (Some c.args.hsm.opened) in
     let lines = AreOfScript c.args.commits (g.I.Source.left c.args.source.now) in
-    rw c.in-Err.is (none_done (AreDone may lines (Some c.in-Err.why)) (λ deeds. deeds ≡ []) _ c.requires.anew.history (idle_done may lines c.in-Err.why (before_reading c.in-Err.why (rw c.in-Err.is at c.requires.ready))) refl)
+    rw c.in-Err.is (none_done (AreDone may settles lines (Some c.in-Err.why)) (λ deeds. deeds ≡ []) _ c.requires.anew.history (idle_done may settles lines c.in-Err.why (before_reading c.in-Err.why (rw c.in-Err.is at c.requires.ready))) refl)

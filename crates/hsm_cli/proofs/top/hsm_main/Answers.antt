@@ -20,7 +20,6 @@ returns-in-Ok-Some g c =
     subst (λ (f : Option Form). KeepsPromises g.H.Host g.H.Disk.Disk g.H.Drive.Drive f c.args.host.now c.run_command.new.host source sink c.run_command.result)
     (has_form _ (Some c.in-Ok-Some.command) _ c.in-Ok-Some.field-0-is c.in-Ok-Some.ensures) c.run_command.ensures in
     record {
-      script = kept.script;
       deeds = kept.deeds;
       reading = kept.reading;
       legality = kept.legality;
@@ -44,7 +43,6 @@ returns-in-Ok-None g c =
     (has_form _ None _ c.in-Ok-None.field-0-is c.in-Ok-None.ensures)
     (refused_keeps g.H.Disk.Disk g.H.Drive.Drive g.H.Host c.args.host.now source.left sink.new source.now sink.now c.unopened.result c.unopened.ensures) in
     record {
-      script = kept.script;
       deeds = kept.deeds;
       reading = kept.reading;
       legality = kept.legality;
@@ -67,7 +65,6 @@ returns-in-Err g c =
     let kept : KeepsPromises g.H.Host g.H.Disk.Disk g.H.Drive.Drive form c.args.host.now c.args.host.now source sink c.unopened-in-Err.result =
     wanting_keeps g.H.Disk.Disk g.H.Drive.Drive g.H.Host c.args.host.now source.left sink.new source.now sink.now c.unopened-in-Err.result form c.unopened-in-Err.ensures in
     record {
-      script = kept.script;
       deeds = kept.deeds;
       reading = kept.reading;
       legality = kept.legality;

@@ -1,37 +1,21 @@
 use Rattle.std.proofs.Common.{inl, None, Some, false, refl, sym, subst, arith}
 use Rattle.std.proofs.KnownBytes.{Appends-nil}
 use Rattle.disk_model.specs.Calls.{RoseByOne}
-use Rattle.media_model.specs.Memory.{has_gives}
 use Rattle.plain_model.specs.State.{Held}
 use Rattle.plain_model.specs.Stands.{Stands}
 use Rattle.hsm_policy.specs.Settings.{standard}
-use Rattle.hsm_cli.specs.Clauses.{HasRun}
 use Rattle.hsm_cli.specs.Deeds.{AreDone, AreOfScript, DrivesInMemory, MayGoOnOver}
 use Rattle.hsm_cli.specs.Follows.{SettlesOn}
-use Rattle.hsm_cli.specs.Sealing.{LosesNothing}
 use Rattle.hsm_cli.specs.RunObjects.{source_told, sink_told}
 use Rattle.hsm_cli.proofs.Faults.{caused_none, caused_new, none_failed}
 use Rattle.hsm_cli.proofs.Legality.{good_new, good_unopened, packed_new}
 use Rattle.hsm_cli.proofs.Running.{never_rose, no_host, ends_in_memory}
-use Rattle.hsm_cli.proofs.Scripted.{settles_new, also_keeps}
-use Rattle.hsm_cli.proofs.Sealing.{right_run}
 use Rattle.hsm_cli.proofs.Wanting.{gives_none}
-use Rattle.hsm_cli.proofs.Deeds.{done_new, went_in_memory}
+use Rattle.hsm_cli.proofs.Deeds.{done_new, none_in_memory, went_in_memory}
 use Rattle.hsm_cli.proofs.Doing.{also_well, done_as, none_done}
 use Rattle.hsm_cli.proofs.Daemons.{none_well}
 use Rattle.hsm_cli.specs.Daemons.{IsWellServedOver}
 use Rattle.hsm_cli.proofs.top.replay.Goals as goal
-
-pub returns-in-Ok-clause-script : goal.returns-in-Ok-clause-script
-returns-in-Ok-clause-script g c =
-    let source = source_told g.I.Source.left g.I.Source.fault_count c.args.source.now c.run_opened-finished.new.source in
-    let cause = c.run_opened-finished.result.cause in
-    let history = c.run_opened-finished.result.history in
-    rw c.ended.ensures
-    (settles_new g.row.D.Denot c.in-Ok.hsm.opened (λ so well. HasRun so (λ marks. well marks × LosesNothing marks) false source cause history) c.in-Ok.ensures.empty.0 c.in-Ok.ensures.empty.1 c.in-Ok.ensures.empty.2
-    (also_keeps (Some c.in-Ok.hsm.opened) (SettlesOn (Some c.in-Ok.hsm.opened)) LosesNothing false source cause history c.run_opened-finished.ensures.keeps
-    (right_run (SettlesOn (Some c.in-Ok.hsm.opened)) _ (λ ds. ds.items) c.run_opened-finished.result.drives.items c.new_drives-drives.result false source cause history
-    c.seals_are_whole.ensures refl (λ d v there. has_gives d v there) c.new_drives-drives.ensures.why c.run_opened-finished.ensures.unready c.run_opened-finished.ensures.idle c.run_opened-finished.ensures.script)))
 
 pub returns-in-Ok-clause-legality : goal.returns-in-Ok-clause-legality
 returns-in-Ok-clause-legality g c = rw c.ended.ensures (good_new c.in-Ok.hsm.opened c.run_opened-finished.result.history c.in-Ok.ensures.empty.0 c.in-Ok.ensures.empty.1 c.in-Ok.ensures.empty.2 (c.run_opened-finished.ensures.good (c.run_opened-finished.result.disk, refl, tt)))
@@ -71,9 +55,6 @@ returns-in-Ok-clause-ends g c =
 
 -- no memory for a store
 
-pub returns-in-Err-clause-script : goal.returns-in-Err-clause-script
-returns-in-Err-clause-script g c = rw c.unopened.ensures (inl refl)
-
 pub returns-in-Err-clause-reading : goal.returns-in-Err-clause-reading
 returns-in-Err-clause-reading g c = rw c.unopened.ensures (gives_none _)
 
@@ -97,8 +78,8 @@ returns-in-Ok-clause-deeds g c =
     rw c.ended.ensures
     (done_new _ g.row.D.Denot opened lines finished.cause (DrivesInMemory standard) finished.history empty.0 empty.1 empty.2
     (also_well (Some opened) _ (DrivesInMemory standard) finished.history c.run_opened-finished.ensures.well
-    (done_as standard (AreDone (MayGoOnOver (Some opened)) lines finished.cause) _ _ (DrivesInMemory standard) finished.history (λ deeds done. done)
-    (λ deeds gone. went_in_memory (λ ds. ds.items) c.new_drives-drives.result finished.drives.items c.new_drives-drives.ensures.handed deeds gone) c.run_opened-finished.ensures.deeds)))
+    (done_as standard (AreDone (MayGoOnOver (Some opened)) (SettlesOn (Some opened)) lines finished.cause) _ _ (DrivesInMemory standard) finished.history (λ deeds done. done)
+    (λ deeds gone. went_in_memory c.seals_are_whole.ensures (λ ds. ds.items) c.new_drives-drives.result finished.drives.items c.new_drives-drives.ensures.handed deeds gone) c.run_opened-finished.ensures.deeds)))
 
 pub returns-in-Err-clause-deeds : goal.returns-in-Err-clause-deeds
-returns-in-Err-clause-deeds g c = rw c.unopened.ensures (none_done _ (λ deeds. IsWellServedOver {D = g.row.D.Denot} None deeds × DrivesInMemory standard deeds) _ refl (inl refl) (none_well _ _ _, inl refl))
+returns-in-Err-clause-deeds g c = rw c.unopened.ensures (none_done _ (λ deeds. IsWellServedOver {D = g.row.D.Denot} None deeds × DrivesInMemory standard deeds) _ refl (inl refl) (none_well _ _ _, none_in_memory))

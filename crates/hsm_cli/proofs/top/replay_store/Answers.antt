@@ -5,17 +5,13 @@ use Rattle.file_store.specs.Stores.{Store}
 use Rattle.hsm_cli.specs.declared.causes.Cause.{Cause}
 use Rattle.hsm_cli.specs.Clauses.{GivesBack}
 use Rattle.hsm_cli.specs.Deeds.{AreOfScript, DrivesWent}
-use Rattle.hsm_cli.specs.Follows.{SettlesOn}
 use Rattle.hsm_cli.specs.Outcomes.{ended_with}
-use Rattle.hsm_replay.specs.Sealed.{Tallies}
-use Rattle.hsm_cli.specs.Sealing.{TalliesSince}
 use Rattle.hsm_cli.specs.RunObjects.{source_told, sink_told, host_told}
 use Rattle.hsm_cli.proofs.Crashes.{crash_safe, why_unopened, why_unhanded, back_unhanded, words_unhanded, begun_unhanded, words_unopened, begun_unopened}
 use Rattle.hsm_cli.proofs.Running.{failed_since, served_words, served_begun}
 use Rattle.hsm_cli.proofs.Legality.{good_but_bytes, good_unopened, legal_as}
-use Rattle.hsm_cli.proofs.Drives.{rose_once, gives_back, none_at_fault, host_failed, why_served, disk_came, drives_came, tallies_since}
+use Rattle.hsm_cli.proofs.Drives.{rose_once, gives_back, none_at_fault, host_failed, why_served, disk_came, drives_came}
 use Rattle.hsm_cli.proofs.Quiet.{unhanded_quiet, once_since, asked_once}
-use Rattle.hsm_cli.proofs.Scripted.{also_keeps, ran_with}
 use Rattle.hsm_cli.proofs.Showings.{unopened_quiet}
 use Rattle.hsm_cli.proofs.Deeds.{host_other, none_came, open_other, unopened_done, went_since}
 use Rattle.hsm_cli.proofs.Doing.{also_well, done_as}
@@ -54,16 +50,6 @@ returns-in-Err-clause-legality g c = legal_as g.H.Disk.Disk c.unopened.result _ 
 
 pub returns-in-Err-open-clause-legality : goal.returns-in-Err-open-clause-legality
 returns-in-Err-open-clause-legality g c = legal_as g.H.Disk.Disk c.unopened-in-Err-open.result _ (Some c.in-Err-open.disk) c.unopened-in-Err-open.ensures
-
-pub returns-in-Ok-open-clause-script : goal.returns-in-Ok-open-clause-script
-returns-in-Ok-open-clause-script g c =
-    let source = source_told g.I.Source.left g.I.Source.fault_count c.args.source.now c.run_opened-finished.new.source in
-    let right = TalliesSince g.H.Drive.Drive (g.H.Host.stores c.args.host.now c.args.dir.now) c.run_opened-finished.result.drives.items in
-    rw (c.from-in-Ok-open.ensures, c.run_opened-finished.ensures.opening)
-    (also_keeps (Some c.in-Ok-open.hsm.opened) (SettlesOn (Some c.in-Ok-open.hsm.opened)) right true source c.run_opened-finished.result.cause c.run_opened-finished.result.history c.run_opened-finished.ensures.keeps
-    (ran_with (SettlesOn (Some c.in-Ok-open.hsm.opened)) (λ ds marks. Tallies g.H.Drive.Drive ds.items c.run_opened-finished.result.drives.items standard marks) right c.ask_for_drives-drives.result true source c.run_opened-finished.result.cause c.run_opened-finished.result.history
-    (tallies_since g.H.Drive.Drive (g.H.Host.stores c.args.host.now c.args.dir.now) (g.H.Host.stores c.disk.new.self c.args.dir.now) (c.disk.ensures.folders c.args.dir.now) c.in-Ok-open.hsm.opened (λ ds. ds.items) c.ask_for_drives-drives.result c.run_opened-finished.result.drives.items c.ask_for_drives-drives.ensures.given)
-    c.ask_for_drives-drives.ensures.ready c.run_opened-finished.ensures.unready c.run_opened-finished.ensures.idle c.run_opened-finished.ensures.script))
 
 -- the disk and the drives, and what the host has left
 

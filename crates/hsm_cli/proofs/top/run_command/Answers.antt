@@ -26,7 +26,7 @@ returns-in-Replay g c =
     let sink = sink_told g.O.Sink.taken g.O.Sink.fault_count c.args.sink.now c.replay.new.sink in
     let p = c.replay.ensures in
     subst (λ (f : Option Form). KeepsPromises g.H.Host g.H.Disk.Disk g.H.Drive.Drive f c.args.host.now c.args.host.now source sink c.replay.result) (has_form _ _ c.in-Replay.is)
-    (replay_keeps g.H.Host g.H.Disk.Disk g.H.Drive.Drive c.args.host.now c.args.host.now source sink c.replay.result p.ended p.legality p.packed p.faultless p.plain p.caused_by p.media c.one_script.ensures.script p.script p.deeds p.reading p.output p.reads p.writes p.source_once p.sink_once p.ends)
+    (replay_keeps g.H.Host g.H.Disk.Disk g.H.Drive.Drive c.args.host.now c.args.host.now source sink c.replay.result p.ended p.legality p.packed p.faultless p.plain p.caused_by p.media c.one_script.ensures.script p.deeds p.reading p.output p.reads p.writes p.source_once p.sink_once p.ends)
 
 pub returns-in-ReplayStore : goal.returns-in-ReplayStore
 returns-in-ReplayStore g c =
@@ -35,7 +35,7 @@ returns-in-ReplayStore g c =
     let p = c.replay_store.ensures in
     subst (λ (f : Option Form). KeepsPromises g.H.Host g.H.Disk.Disk g.H.Drive.Drive f c.args.host.now c.replay_store.new.host source sink c.replay_store.result) (has_form _ _ c.in-ReplayStore.is)
     (store_keeps g.H.Host g.H.Disk.Disk g.H.Drive.Drive c.args.host.now c.replay_store.new.host source sink c.replay_store.result c.in-ReplayStore.path.now c.in-ReplayStore.dir.now c.one_script.ensures.script
-    p.told p.command p.script p.deeds p.reading p.legality p.plain p.media p.caused_by p.crash p.output p.host p.asked p.unmade p.lent p.drives p.folders p.driven p.begun p.opened p.back p.sound p.reads p.writes p.source_once p.sink_once p.quiet p.host_once p.why)
+    p.told p.command p.deeds p.reading p.legality p.plain p.media p.caused_by p.crash p.output p.host p.asked p.unmade p.lent p.drives p.folders p.driven p.begun p.opened p.back p.sound p.reads p.writes p.source_once p.sink_once p.quiet p.host_once p.why)
 
 pub returns-in-Show : goal.returns-in-Show
 returns-in-Show g c =
@@ -61,4 +61,4 @@ returns-in-Drill g c =
     let sink = sink_told g.O.Sink.taken g.O.Sink.fault_count c.args.sink.now c.drill.new.sink in
     let p = c.drill.ensures in
     subst (λ (f : Option Form). KeepsPromises g.H.Host g.H.Disk.Disk g.H.Drive.Drive f c.args.host.now c.args.host.now source sink c.drill.result) (has_form _ _ c.in-Drill.is)
-    (drill_keeps g.H.Host g.H.Disk.Disk g.H.Drive.Drive c.args.host.now c.args.host.now source sink c.drill.result p.ended p.legality p.packed p.faultless p.plain p.caused_by p.media c.in-Drill.number p.script p.deeds p.output p.ends p.once (record { left = refl; faults = refl }))
+    (drill_keeps g.H.Host g.H.Disk.Disk g.H.Drive.Drive c.args.host.now c.args.host.now source sink c.drill.result p.ended p.legality p.packed p.faultless p.plain p.caused_by p.media c.in-Drill.number p.deeds p.output p.ends p.once (record { left = refl; faults = refl }))

@@ -1,22 +1,19 @@
 use Rattle.std.proofs.Common.{None, refl, subst}
 use Rattle.plain_model.specs.declared.entries.Action.TheVariants.{Commit}
 use Rattle.plain_model.specs.declared.entries.Actor.TheVariants.{Store as TheStore}
-use Rattle.marked_history.specs.Follows.{IsPartOf}
+use Rattle.hsm_system.specs.Events.{Runs}
 use Rattle.hsm_replay.specs.Doing.{Does}
-use Rattle.hsm_replay.specs.Keeping.{Moves}
 use Rattle.hsm_replay.specs.Running.{commit_line}
 use Rattle.hsm_replay.specs.Systems.{Run}
 use Rattle.hsm_replay.proofs.Between.{event_is_run}
 use Rattle.hsm_replay.proofs.Committing.{commit_durable}
-use Rattle.hsm_replay.proofs.Events.{event_moves, event_does}
+use Rattle.hsm_replay.proofs.Events.{event_leaves, event_does}
 use Rattle.hsm_replay.specs.Deeds.{ByDeeds}
 use Rattle.hsm_replay.proofs.DeedRounds.{IsEntryOf, IsCutOf, event_by_deeds}
 use Rattle.hsm_replay.proofs.replay.Replay.commit.Goals as goal
 
 pub returns-clause-moves : goal.returns-clause-moves
-returns-clause-moves g c =
-    subst (λ (old : Run g.row.D.Denot g.row.M.Denot). Moves g.D.Disk g.M.Drive (IsPartOf commit_line) c.event.result old (record { system = c.event.new.self; drives = c.self.inside.drives.items })) c.self.view_is
-    (event_moves g.D.Disk g.M.Drive (record { system = c.self.inside.system; drives = c.self.inside.drives.items }) (record { system = c.event.new.self; drives = c.self.inside.drives.items }) TheStore Commit c.event.result c.event.ensures.done refl tt)
+returns-clause-moves g c = subst (λ (old : Run g.row.D.Denot g.row.M.Denot). Runs g.D.Disk c.event.result old.system.store c.event.new.self.store) c.self.view_is c.event.ensures.done.runs
 
 pub returns-clause-does : goal.returns-clause-does
 returns-clause-does g c =
@@ -34,4 +31,4 @@ returns-clause-deeds g c =
     let inside : Run g.row.D.Denot g.row.M.Denot = record { system = c.self.inside.system; drives = c.self.inside.drives.items } in
     let left : Run g.row.D.Denot g.row.M.Denot = record { system = c.event.new.self; drives = c.self.inside.drives.items } in
     subst (λ (old : Run g.row.D.Denot g.row.M.Denot). ByDeeds g.M.Drive (λ (done : Unit {0}). IsEntryOf TheStore Commit) (IsCutOf TheStore Commit) c.event.result old left) c.self.view_is
-    (event_by_deeds g.M.Drive inside left refl TheStore Commit c.event.result c.event.ensures.deeds)
+    (event_by_deeds g.M.Drive inside left (event_leaves g.D.Disk g.M.Drive inside left TheStore Commit c.event.result c.event.ensures.done refl) TheStore Commit tt c.event.result c.event.ensures.deeds)

@@ -1,8 +1,6 @@
 use Rattle.std.proofs.Common.{◌≡◌, Ok}
-use Rattle.std.specs.List.{AllByRecursion}
-use Rattle.marked_history.specs.Follows.{IsMadeBy}
+use Rattle.hsm_system.specs.Events.{Runs}
 use Rattle.hsm_replay.specs.Deeds.{IsDoneBy}
-use Rattle.hsm_replay.specs.Keeping.{Moves}
 use Rattle.hsm_replay.specs.Systems.{running}
 use Rattle.hsm_replay.specs.Turns.{GoesInTurn}
 use Rattle.hsm_replay.proofs.DeedRounds.{IsLeftSoFar}
@@ -11,7 +9,7 @@ use Rattle.hsm_replay.proofs.replay.Replay.rest.Given as goal
 
 abbrev pub invariant-loop-alloc : goal.invariant-loop-alloc
 invariant-loop-alloc g l = record {
-  moves : Moves {T = Unit {0}} g.D.Disk g.M.Drive (AllByRecursion (IsMadeBy l.daemon)) (Ok tt) l.fn.self l.self;
+  moves : Runs g.D.Disk {T = Unit {0}} (Ok tt) l.fn.self.system.store l.self.system.store;
   goes : GoesInTurn l.daemon l.fn.self l.self;
   runs : running l.self ≡ running l.fn.self;
   deeds : IsDoneBy g.M.Drive (IsLeftSoFar l.daemon) l.fn.self l.self;

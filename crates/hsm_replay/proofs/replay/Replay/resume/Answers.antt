@@ -1,14 +1,12 @@
 use Rattle.std.proofs.Common.{◌≡◌, ◌∙◌, true, false, OnOk, inl, refl, sym, subst}
-use Rattle.std.specs.List.{AllByRecursion}
 use Rattle.plain_model.specs.declared.entries.Action.TheVariants.{Resume}
 use Rattle.plain_model.specs.declared.entries.Actor.TheVariants.{Caller}
-use Rattle.marked_history.specs.Follows.{IsOfSettling}
-use Rattle.hsm_replay.specs.Keeping.{Moves}
+use Rattle.hsm_system.specs.Events.{Runs}
 use Rattle.hsm_replay.specs.Systems.{Run, running}
 use Rattle.hsm_replay.specs.Turns.{MayResume}
 use Rattle.hsm_replay.proofs.Between.{event_is_run}
-use Rattle.hsm_replay.proofs.Events.{event_leaves, event_moves, resumed_on}
-use Rattle.hsm_replay.proofs.Joining.{resume_is_settling, moves_itself}
+use Rattle.hsm_replay.proofs.Events.{event_leaves, resumed_on}
+use Rattle.hsm_replay.proofs.Joining.{runs_itself}
 use Rattle.hsm_replay.proofs.WhichRun.{event_runs}
 use Rattle.hsm_replay.specs.Deeds.{ByDeeds, IsResumeCut, MayResumeBy}
 use Rattle.hsm_replay.specs.ReadyCallers.{MayGoOn}
@@ -19,12 +17,10 @@ use Rattle.hsm_replay.proofs.replay.Replay.resume.Goals as goal
 
 pub returns-clause-moves : goal.returns-clause-moves
 returns-clause-moves g c =
-    subst (λ (old : Run g.row.D.Denot g.row.M.Denot). Moves g.D.Disk g.M.Drive (AllByRecursion IsOfSettling) c.event.result old (record { system = c.event.new.self; drives = c.self.inside.drives.items })) c.self.view_is
-    (resume_is_settling g.D.Disk g.M.Drive c.args.caller c.event.result (record { system = c.self.inside.system; drives = c.self.inside.drives.items }) (record { system = c.event.new.self; drives = c.self.inside.drives.items }) c.requires
-    (event_moves g.D.Disk g.M.Drive (record { system = c.self.inside.system; drives = c.self.inside.drives.items }) (record { system = c.event.new.self; drives = c.self.inside.drives.items }) (Caller c.args.caller) Resume c.event.result c.event.ensures.done refl tt))
+    subst (λ (old : Run g.row.D.Denot g.row.M.Denot). Runs g.D.Disk c.event.result old.system.store c.event.new.self.store) c.self.view_is c.event.ensures.done.runs
 
 pub returns-then-not-is_ready-clause-moves : goal.returns-then-not-is_ready-clause-moves
-returns-then-not-is_ready-clause-moves g c = moves_itself g.D.Disk g.M.Drive tt c.args.self.now
+returns-then-not-is_ready-clause-moves g c = runs_itself g.D.Disk tt c.args.self.now.system.store
 
 pub returns-clause-resumed : goal.returns-clause-resumed
 returns-clause-resumed g c =
@@ -52,4 +48,4 @@ returns-clause-deeds g c =
     let may : MayGoOn store store.history c.args.caller = (ready_goes g.D.Disk store c.kept.ensures c.args.caller).0 (c.is_ready.ensures.0 c.if-not-is_ready.false) in
     subst (λ (old : Run g.row.D.Denot g.row.M.Denot). ByDeeds g.M.Drive (λ (done : Unit {0}). MayResumeBy (MayGoOn old.system.store) c.args.caller) (IsResumeCut (MayGoOn old.system.store) c.args.caller) c.event.result old left) c.self.view_is
     (resume_by_deeds g.M.Drive (MayGoOn inside.system.store) c.args.caller c.requires inside left (subst (λ (s : Run g.row.D.Denot g.row.M.Denot). MayGoOn s.system.store s.system.store.history c.args.caller) (sym c.self.view_is) may) c.event.result
-    (event_by_deeds g.M.Drive inside left refl (Caller c.args.caller) Resume c.event.result c.event.ensures.deeds))
+    (event_by_deeds g.M.Drive inside left (event_leaves g.D.Disk g.M.Drive inside left (Caller c.args.caller) Resume c.event.result c.event.ensures.done refl) (Caller c.args.caller) Resume tt c.event.result c.event.ensures.deeds))

@@ -1,9 +1,7 @@
 use Rattle.std.proofs.Common.{◌≡◌, Ok}
-use Rattle.std.specs.List.{AllByRecursion}
-use Rattle.marked_history.specs.Follows.{IsOfSettling}
+use Rattle.hsm_system.specs.Events.{Runs}
 use Rattle.hsm_replay.specs.Deeds.{IsDoneBy}
 use Rattle.hsm_replay.specs.ReadyCallers.{MayGoOn}
-use Rattle.hsm_replay.specs.Keeping.{Moves}
 use Rattle.hsm_replay.specs.Systems.{running}
 use Rattle.hsm_replay.proofs.DeedRounds.{HaveResumedTo}
 use Rattle.hsm_replay.proofs.Rounds.{ResumedTo}
@@ -11,7 +9,7 @@ use Rattle.hsm_replay.proofs.replay.Replay.resume_all.Given as goal
 
 abbrev pub invariant-loop-number : goal.invariant-loop-number
 invariant-loop-number g l = record {
-  moves : Moves {T = Unit {0}} g.D.Disk g.M.Drive (AllByRecursion IsOfSettling) (Ok tt) l.fn.self l.self;
+  moves : Runs g.D.Disk {T = Unit {0}} (Ok tt) l.fn.self.system.store l.self.system.store;
   resumed : ResumedTo l.number l.fn.self l.self;
   runs : running l.self ≡ running l.fn.self;
   deeds : IsDoneBy g.M.Drive (HaveResumedTo (MayGoOn l.fn.self.system.store) l.number) l.fn.self l.self;

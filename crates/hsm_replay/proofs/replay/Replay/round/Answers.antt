@@ -1,37 +1,32 @@
 use Rattle.std.proofs.Common.{◌∙◌, ℕ, Ok, Err, false, drop, sym, ap}
 use Rattle.std.specs.List.{list_all}
 use Rattle.std.proofs.lemmas.Result.{err_from_is_err_and}
-use Rattle.hsm_types.specs.declared.daemons.Daemon.TheVariants.{Recall, Migrate}
 use Rattle.marked_history.specs.Quiet.{is_quiet}
-use Rattle.hsm_replay.proofs.Joining.{moves_then, moves_with, stops_with, turn_is_settling}
-use Rattle.hsm_replay.proofs.Rounds.{round_ends, begun_runs, begun_fresh, round_runs, round_fresh}
+use Rattle.hsm_replay.proofs.Joining.{runs_then, runs_with, stops_with}
+use Rattle.hsm_replay.proofs.Rounds.{begun_runs, begun_fresh, round_runs, round_fresh}
 use Rattle.hsm_replay.proofs.DeedRounds.{round_begun_by, round_loud, round_done, recall_cut, resumes_cut_by, migrate_cut}
 use Rattle.hsm_replay.proofs.replay.Replay.round.Goals as goal
 
 pub returns-in_err-turn-clause-moves : goal.returns-in_err-turn-clause-moves
 returns-in_err-turn-clause-moves g c =
     let p = err_from_is_err_and c.from_residual.result c.from_residual.ensures.1 in
-    rw (p.1, p.2) (stops_with g.D.Disk g.M.Drive _ _ _ (turn_is_settling g.D.Disk g.M.Drive Recall (Err _) _ _ c.in_err-turn.ensures.moves))
+    rw (p.1, p.2) (stops_with g.D.Disk _ _ _ c.in_err-turn.ensures.moves)
 
 pub returns-in_err-resume_all-clause-moves : goal.returns-in_err-resume_all-clause-moves
 returns-in_err-resume_all-clause-moves g c =
     let p = err_from_is_err_and c.from_residual-in_err-resume_all.result c.from_residual-in_err-resume_all.ensures.1 in
-    rw (p.1, p.2) (moves_then g.D.Disk g.M.Drive tt (Err _) _ _ _ c.in_ok-turn.ensures.runs (turn_is_settling g.D.Disk g.M.Drive Recall (Ok tt) _ _ c.in_ok-turn.ensures.moves) (stops_with g.D.Disk g.M.Drive _ _ _ c.in_err-resume_all.ensures.moves))
+    rw (p.1, p.2) (runs_then g.D.Disk tt (Err _) _ _ _ c.in_ok-turn.ensures.moves (stops_with g.D.Disk _ _ _ c.in_err-resume_all.ensures.moves))
 
 pub returns-then-not-is_quiet_since-clause-moves : goal.returns-then-not-is_quiet_since-clause-moves
-returns-then-not-is_quiet_since-clause-moves g c = moves_with g.D.Disk g.M.Drive tt false _ _ (moves_then g.D.Disk g.M.Drive tt (Ok tt) _ _ _ c.in_ok-turn.ensures.runs (turn_is_settling g.D.Disk g.M.Drive Recall (Ok tt) _ _ c.in_ok-turn.ensures.moves) c.in_ok-resume_all.ensures.moves)
+returns-then-not-is_quiet_since-clause-moves g c = runs_with g.D.Disk tt false _ _ (runs_then g.D.Disk tt (Ok tt) _ _ _ c.in_ok-turn.ensures.moves c.in_ok-resume_all.ensures.moves)
 
 pub returns-in_err-turn-2-clause-moves : goal.returns-in_err-turn-2-clause-moves
 returns-in_err-turn-2-clause-moves g c =
     let p = err_from_is_err_and c.from_residual-in_err-turn-2.result c.from_residual-in_err-turn-2.ensures.1 in
-    rw (p.1, p.2) (moves_then g.D.Disk g.M.Drive tt (Err _) _ _ _ (c.in_ok-resume_all.ensures.runs ∙ c.in_ok-turn.ensures.runs) (moves_then g.D.Disk g.M.Drive tt (Ok tt) _ _ _ c.in_ok-turn.ensures.runs (turn_is_settling g.D.Disk g.M.Drive Recall (Ok tt) _ _ c.in_ok-turn.ensures.moves) c.in_ok-resume_all.ensures.moves) (stops_with g.D.Disk g.M.Drive _ _ _ (turn_is_settling g.D.Disk g.M.Drive Migrate (Err _) _ _ c.in_err-turn-2.ensures.moves)))
+    rw (p.1, p.2) (runs_then g.D.Disk tt (Err _) _ _ _ (runs_then g.D.Disk tt (Ok tt) _ _ _ c.in_ok-turn.ensures.moves c.in_ok-resume_all.ensures.moves) (stops_with g.D.Disk _ _ _ c.in_err-turn-2.ensures.moves))
 
 pub returns-clause-moves : goal.returns-clause-moves
-returns-clause-moves g c = moves_with g.D.Disk g.M.Drive tt _ _ _ (moves_then g.D.Disk g.M.Drive tt (Ok tt) _ _ _ (c.in_ok-resume_all.ensures.runs ∙ c.in_ok-turn.ensures.runs) (moves_then g.D.Disk g.M.Drive tt (Ok tt) _ _ _ c.in_ok-turn.ensures.runs (turn_is_settling g.D.Disk g.M.Drive Recall (Ok tt) _ _ c.in_ok-turn.ensures.moves) c.in_ok-resume_all.ensures.moves) (turn_is_settling g.D.Disk g.M.Drive Migrate (Ok tt) _ _ c.in_ok-turn-2.ensures.moves))
-
-pub returns-clause-ends : goal.returns-clause-ends
-returns-clause-ends g c = λ is. round_ends g.D.Disk g.M.Drive _ _ _ _ c.in_ok-turn.ensures.turned c.in_ok-turn.ensures.moves.keeps c.in_ok-resume_all.ensures.resumed c.in_ok-resume_all.ensures.moves.keeps c.in_ok-turn-2.ensures.turned c.in_ok-turn-2.ensures.moves.keeps
-    (ap (λ (n : ℕ). list_all is_quiet (drop n c.turn-2.new.self.system.store.history)) (sym c.entries-before.ensures.count) ∙ sym c.is_quiet_since-2.ensures ∙ is)
+returns-clause-moves g c = runs_with g.D.Disk tt _ _ _ (runs_then g.D.Disk tt (Ok tt) _ _ _ (runs_then g.D.Disk tt (Ok tt) _ _ _ c.in_ok-turn.ensures.moves c.in_ok-resume_all.ensures.moves) c.in_ok-turn-2.ensures.moves)
 
 pub returns-then-not-is_quiet_since-clause-runs : goal.returns-then-not-is_quiet_since-clause-runs
 returns-then-not-is_quiet_since-clause-runs g c = begun_runs _ _ _ c.in_ok-turn.ensures.turned c.in_ok-resume_all.ensures.resumed
@@ -59,22 +54,22 @@ returns-in_err-turn-clause-deeds g c =
 pub returns-in_err-resume_all-clause-deeds : goal.returns-in_err-resume_all-clause-deeds
 returns-in_err-resume_all-clause-deeds g c =
     let p = err_from_is_err_and c.from_residual-in_err-resume_all.result c.from_residual-in_err-resume_all.ensures.1 in
-    rw (p.1, p.2) (resumes_cut_by g.M.Drive _ _ _ _ c.in_ok-turn.ensures.moves.runs.goes_on.opened c.in_ok-turn.ensures.deeds c.in_err-resume_all.ensures.deeds)
+    rw (p.1, p.2) (resumes_cut_by g.M.Drive _ _ _ _ c.in_ok-turn.ensures.moves.goes_on.opened c.in_ok-turn.ensures.deeds c.in_err-resume_all.ensures.deeds)
 
 pub returns-then-not-is_quiet_since-clause-deeds : goal.returns-then-not-is_quiet_since-clause-deeds
-returns-then-not-is_quiet_since-clause-deeds g c = round_loud g.M.Drive _ _ _
+returns-then-not-is_quiet_since-clause-deeds g c = round_loud g.M.Drive _ _ _ _
     (sym c.if-not-is_quiet_since.true ∙ c.is_quiet_since.ensures ∙ ap (λ (n : ℕ). list_all is_quiet (drop n c.resume_all.new.self.system.store.history)) c.entries-before.ensures.count)
-    (round_begun_by g.M.Drive _ _ _ c.in_ok-turn.ensures.moves.runs.goes_on.opened c.in_ok-turn.ensures.deeds c.in_ok-resume_all.ensures.deeds)
+    (round_begun_by g.M.Drive _ _ _ c.in_ok-turn.ensures.turned c.in_ok-turn.ensures.moves.goes_on.opened c.in_ok-turn.ensures.deeds c.in_ok-resume_all.ensures.deeds)
 
 pub returns-in_err-turn-2-clause-deeds : goal.returns-in_err-turn-2-clause-deeds
 returns-in_err-turn-2-clause-deeds g c =
     let p = err_from_is_err_and c.from_residual-in_err-turn-2.result c.from_residual-in_err-turn-2.ensures.1 in
     rw (p.1, p.2) (migrate_cut g.M.Drive _ _ _ _ _ _ c.in_ok-turn.ensures.turned c.in_ok-resume_all.ensures.resumed
     (sym c.if-not-is_quiet_since.false ∙ c.is_quiet_since.ensures ∙ ap (λ (n : ℕ). list_all is_quiet (drop n c.resume_all.new.self.system.store.history)) c.entries-before.ensures.count)
-    (round_begun_by g.M.Drive _ _ _ c.in_ok-turn.ensures.moves.runs.goes_on.opened c.in_ok-turn.ensures.deeds c.in_ok-resume_all.ensures.deeds) c.in_err-turn-2.ensures.deeds)
+    (round_begun_by g.M.Drive _ _ _ c.in_ok-turn.ensures.turned c.in_ok-turn.ensures.moves.goes_on.opened c.in_ok-turn.ensures.deeds c.in_ok-resume_all.ensures.deeds) c.in_err-turn-2.ensures.deeds)
 
 pub returns-clause-deeds : goal.returns-clause-deeds
-returns-clause-deeds g c = round_done g.M.Drive _ _ _ _ _ _ c.in_ok-turn.ensures.turned c.in_ok-resume_all.ensures.resumed
+returns-clause-deeds g c = round_done g.M.Drive _ _ _ _ _ _ c.in_ok-turn.ensures.turned c.in_ok-resume_all.ensures.resumed c.in_ok-turn-2.ensures.turned
     (sym c.if-not-is_quiet_since.false ∙ c.is_quiet_since.ensures ∙ ap (λ (n : ℕ). list_all is_quiet (drop n c.resume_all.new.self.system.store.history)) c.entries-before.ensures.count)
     (c.is_quiet_since-2.ensures ∙ ap (λ (n : ℕ). list_all is_quiet (drop n c.turn-2.new.self.system.store.history)) c.entries-before.ensures.count)
-    (round_begun_by g.M.Drive _ _ _ c.in_ok-turn.ensures.moves.runs.goes_on.opened c.in_ok-turn.ensures.deeds c.in_ok-resume_all.ensures.deeds) c.in_ok-turn-2.ensures.deeds
+    (round_begun_by g.M.Drive _ _ _ c.in_ok-turn.ensures.turned c.in_ok-turn.ensures.moves.goes_on.opened c.in_ok-turn.ensures.deeds c.in_ok-resume_all.ensures.deeds) c.in_ok-turn-2.ensures.deeds

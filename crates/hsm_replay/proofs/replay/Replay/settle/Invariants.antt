@@ -1,18 +1,16 @@
 use Rattle.std.proofs.Common.{◌≡◌, ◌-◌, ◌^◌, length, Ok}
-use Rattle.std.specs.List.{AllByRecursion}
-use Rattle.marked_history.specs.Follows.{IsOfSettling}
+use Rattle.hsm_system.specs.Events.{Runs}
 use Rattle.marked_history.specs.Quiet.{is_quiet}
 use Rattle.hsm_replay.specs.Deeds.{IsDoneBy}
 use Rattle.hsm_replay.specs.Freshness.{StaysFresh}
 use Rattle.hsm_replay.specs.ReadyCallers.{MayGoOn}
-use Rattle.hsm_replay.specs.Keeping.{Moves}
 use Rattle.hsm_replay.specs.Systems.{running, refreshed}
 use Rattle.hsm_replay.proofs.PartsOn.{RoundsTo}
 use Rattle.hsm_replay.proofs.replay.Replay.settle.Given as goal
 
 abbrev pub invariant-loop-self : goal.invariant-loop-self
 invariant-loop-self g l = record {
-  moves : Moves {T = Unit {0}} g.D.Disk g.M.Drive (AllByRecursion IsOfSettling) (Ok tt) l.fn.self l.self;
+  moves : Runs g.D.Disk {T = Unit {0}} (Ok tt) l.fn.self.system.store l.self.system.store;
   fresh : StaysFresh (refreshed l.fn.self) l.self;
   runs : running l.self ≡ running l.fn.self;
   deeds : IsDoneBy g.M.Drive (RoundsTo is_quiet (MayGoOn l.fn.self.system.store)) l.fn.self l.self;

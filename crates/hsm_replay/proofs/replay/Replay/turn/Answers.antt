@@ -1,6 +1,6 @@
 use Rattle.std.proofs.Common.{◌∙◌}
 use Rattle.std.proofs.lemmas.Result.{err_from_is_err_and}
-use Rattle.hsm_replay.proofs.Joining.{moves_then}
+use Rattle.hsm_replay.proofs.Joining.{runs_then}
 use Rattle.hsm_replay.proofs.Turning.{turned_later}
 use Rattle.hsm_replay.proofs.DeedRounds.{turn_stopped, turn_done}
 use Rattle.hsm_replay.proofs.replay.Replay.turn.Goals as goal
@@ -11,7 +11,7 @@ returns-in_err-rest-clause-moves g c =
     rw (p.1, p.2) c.in_err-rest.ensures.moves
 
 pub returns-clause-moves : goal.returns-clause-moves
-returns-clause-moves g c = moves_then g.D.Disk g.M.Drive tt c.whole_turn.result _ _ _ c.in_ok-rest.ensures.runs c.in_ok-rest.ensures.moves c.whole_turn.ensures.moves
+returns-clause-moves g c = runs_then g.D.Disk tt c.whole_turn.result _ _ _ c.in_ok-rest.ensures.moves c.whole_turn.ensures.moves
 
 pub returns-clause-turned : goal.returns-clause-turned
 returns-clause-turned g c = turned_later g.D.Disk g.M.Drive c.whole_turn.result c.args.daemon _ _ _ c.in_ok-rest.ensures.goes c.whole_turn.ensures.turned
