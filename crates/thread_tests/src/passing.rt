@@ -3,7 +3,8 @@ ghost use Rattle.std.specs.Prelude.{◌≡◌, ◌≤◌, [], true, Some};
 ghost use mathlib.Core.List.{IsPrefix};
 ghost use Rattle.call_seats.specs.Passes.{new_pass, new_passes};
 
-use crate::stores::{create, new_store, read, two_of, write};
+use crate::sharing::fill;
+use crate::stores::{create, new_store, read, two_of};
 use call_seats::{Desk, Pass, Passes, Pen};
 use disk_model::SureDisk;
 use hsm_core::Hsm;
@@ -17,7 +18,7 @@ use std::thread;
 use std::thread::Threads;
 
 /// The write of the byte 7 to the file a.
-fn write_seven(alloc: Global) -> Result<Call, AllocError> {
+fn seven(alloc: Global) -> Result<Call, AllocError> {
     Ok(Call::Write {
         name: Word::from(vec![in alloc; b'a'; 1]?),
         offset: 0,
@@ -25,21 +26,22 @@ fn write_seven(alloc: Global) -> Result<Call, AllocError> {
     })
 }
 
-/// The caller makes the first call and then the other one. Whether the last is done.
-fn make_both<N: Named<SureDisk>, R: Wait>(
+/// The caller creates the file a and writes the byte 7 to it. Whether that was done.
+fn write_seven<N: Named<SureDisk>, R: Wait>(
     rt: &R,
     alloc: Global,
     shared: &Shared<SureDisk, N>,
     pass: Pass,
-    first: Call,
-    then: Call,
 ) -> (bool, Pass)
     requires table { pass.table ≡ N.table }
     requires caller { (1 ≤ pass.number) × (pass.number ≤ shared.now.callers) }
-    ensures { (result.1.table ≡ N.table) × (result.1.number ≡ pass.number) }
+    ensures { result.1.table ≡ N.table }
 {
-    let (_, pass) = shared.call(rt, alloc, pass, first);
-    let (reply, pass) = shared.call(rt, alloc, pass, then);
+    let (Ok(make), Ok(fill)) = (create(alloc, b'a'), seven(alloc)) else {
+        return (false, pass);
+    };
+    let (_, pass) = shared.call(rt, alloc, pass, make);
+    let (reply, pass) = shared.call(rt, alloc, pass, fill);
     (matches!(reply, Reply::Done), pass)
 }
 
@@ -89,19 +91,17 @@ fn pass_on<N: Named<SureDisk> + Send + Sync, R: Threads + Wait + Sync>(
     requires first { (1 ≤ first.number) × (first.number ≤ shared.now.callers) }
     requires second { (1 ≤ second.number) × (second.number ≤ shared.now.callers) }
 {
-    let (make, fill) = (create(alloc, b'a').ok()?, write_seven(alloc).ok()?);
-    let (make_other, fill_other) = (create(alloc, b'b').ok()?, write(alloc, b'b', 100).ok()?);
     let call = read(alloc, b'a', 1).ok()?;
     let ((one, first), (two, second)) = thread::join(
         rt,
         move || -> (bool, Pass)
             requires { (first.table ≡ N.table) × (1 ≤ first.number) × (first.number ≤ shared.now.callers) }
             ensures { result.1.table ≡ N.table }
-        { make_both(rt, alloc, shared, first, make, fill) },
+        { write_seven(rt, alloc, shared, first) },
         move || -> (bool, Pass)
             requires { (second.table ≡ N.table) × (1 ≤ second.number) × (second.number ≤ shared.now.callers) }
             ensures { (result.1.table ≡ N.table) × (1 ≤ result.1.number) × (result.1.number ≤ shared.entry.now.callers) }
-        { make_both(rt, alloc, shared, second, make_other, fill_other) },
+        { fill(rt, alloc, shared, second, b'b') },
     );
     let (reply, _) = call_after(rt, alloc, shared, first, second, call);
     Some(Outcome {

@@ -16,7 +16,7 @@ use std::thread;
 use std::thread::Threads;
 
 /// The caller creates a file and writes it. Whether both were done.
-fn fill<N: Named<SureDisk>, R: Wait>(
+pub(crate) fn fill<N: Named<SureDisk>, R: Wait>(
     rt: &R,
     alloc: Global,
     shared: &Shared<SureDisk, N>,
@@ -25,7 +25,7 @@ fn fill<N: Named<SureDisk>, R: Wait>(
 ) -> (bool, Pass)
     requires table { pass.table ≡ N.table }
     requires caller { (1 ≤ pass.number) × (pass.number ≤ shared.now.callers) }
-    ensures { result.1.table ≡ N.table }
+    ensures { (result.1.table ≡ N.table) × (result.1.number ≡ pass.number) }
 {
     let (Ok(make), Ok(fill)) = (create(alloc, letter), write(alloc, letter, 100)) else {
         return (false, pass);
@@ -81,7 +81,7 @@ fn fill_beside<N: Named<SureDisk> + Send + Sync, R: Threads + Wait + Sync>(
     (one && two, first, second)
 }
 
-/// Gives the passes back one by one. Until both are there the store goes on.
+/// Gives the passes back. Where none is given the store goes on.
 fn close<N: Named<SureDisk>>(
     alloc: Global,
     shared: Shared<SureDisk, N>,
@@ -90,12 +90,12 @@ fn close<N: Named<SureDisk>>(
 ) -> Option<Hsm<SureDisk>>
     requires tables { (first.table ≡ N.table) × (second.table ≡ N.table) }
 {
-    let mut passes = Vec::with_capacity(alloc, 2).ok()?;
-    passes.push(second).ok()?;
-    let Err((shared, passes)) = shared.close(Passes::from(passes)) else {
+    let none = Passes::from(Vec::new(alloc));
+    let Err((shared, _)) = shared.close(none) else {
         return None;
     };
-    let mut passes = passes.into_vec();
+    let mut passes = Vec::with_capacity(alloc, 2).ok()?;
+    passes.push(second).ok()?;
     passes.push(first).ok()?;
     shared.close(Passes::from(passes)).ok()
 }

@@ -11,4 +11,4 @@ join-requires-send-F g c κs within =
     param_send 1 _ (arg_send _ no _ (three_send _ _ _ _
     (shr_send _ _ _ c.type_bounds.sync-R)
     heap_send
-    (shr_send _ _ _ (mutex_sync _ (run_send _ _ _ _ disk_send c.type_bounds.send-N)))))
+    (shr_send _ _ _ (mutex_sync _ (run_send _ _ _ g.N.Named disk_send c.type_bounds.send-N)))))
