@@ -1,5 +1,5 @@
 //! Two callers, each in a thread of its own, over one store that they share, and a session that one of them has.
-ghost use Rattle.std.specs.Prelude.{◌≡◌, ◌≤◌, [], true, Some};
+ghost use Rattle.std.specs.Prelude.{◌≡◌, ◌≤◌, ◌∷◌, ◌++◌, [], true, Some, IfOk};
 ghost use Rattle.call_seats.specs.Passes.{new_pass, new_passes};
 
 use crate::stores::{Counts, counts_of, create, new_store, two_of, write};
@@ -81,6 +81,24 @@ fn fill_beside<N: Named<SureDisk> + Send + Sync, R: Threads + Wait + Sync>(
     (one && two, first, second)
 }
 
+/// The passes with one more.
+fn with_one(passes: Passes, pass: Pass) -> Result<Passes, AllocError>
+    ensures { IfOk result (λ all. all ≡ passes ++ pass ∷ []) }
+{
+    let mut passes = passes.into_vec();
+    passes.push(pass)?;
+    Ok(Passes::from(passes))
+}
+
+/// Both passes, as a list.
+fn both_of(alloc: Global, first: Pass, second: Pass) -> Result<Passes, AllocError>
+    ensures { IfOk result (λ all. all ≡ second ∷ first ∷ []) }
+{
+    let some = with_one(Passes::from(Vec::new(alloc)), second)?;
+    let all = with_one(some, first)?;
+    Ok(all)
+}
+
 /// Gives the passes back. Where none is given the store goes on.
 fn close<N: Named<SureDisk>>(
     alloc: Global,
@@ -94,10 +112,10 @@ fn close<N: Named<SureDisk>>(
     let Err((shared, _)) = shared.close(none) else {
         return None;
     };
-    let mut passes = Vec::with_capacity(alloc, 2).ok()?;
-    passes.push(second).ok()?;
-    passes.push(first).ok()?;
-    shared.close(Passes::from(passes)).ok()
+    let Ok(all) = both_of(alloc, first, second) else {
+        return None;
+    };
+    shared.close(all).ok()
 }
 
 fn share<N: Named<SureDisk> + Send + Sync, R: Threads + Wait + Sync>(
